@@ -24,6 +24,7 @@ pub record TakesTooMuch (s : Shared) (turn : Turn Fiber Shared) : Type 0 where
 
 -- The turn of a fiber that asks for a push at an instruction's address, by what the push comes to.
 abbrev pub IsAsked : ℕ → Fiber → Shared → Pushing → Turn Fiber Shared → Type 0
-IsAsked at f s (Pushes words used) turn = ((turn ≡ Goes f (record s { arena = words })) × (used ≡ s.used)) ⊎ Grows f s words used turn
+IsAsked at f s (Pushes words used) turn =
+    ((turn ≡ Goes f (record s { arena = words })) × (used ≡ s.used)) ⊎ Grows f s words used turn
 IsAsked at f s Overflows turn = TakesTooMuch s turn
 IsAsked at f s Refuses turn = turn ≡ Faults bad_service at

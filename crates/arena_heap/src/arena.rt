@@ -71,7 +71,8 @@ impl Arena {
     /// Puts an item behind those of the array at an address, which moves to more room where it is full. `Full` comes exactly where
     /// that room doesn't fit, and `Bad` exactly where no array stands there; nothing changes then.
     pub fn push(&mut self, machine: &mut Machine, array: u32, item: u32) -> Pushed
-        ensures { IsPushed (pushing machine.old.memory.arena self.old array item) result machine.old machine.new self.old self.new }
+        ensures { IsPushed (pushing machine.old.memory.arena self.old array item) result machine.old machine.new
+            self.old self.new }
     {
         let Some(header) = header_at(machine, self.used, array) else {
             return Pushed::Bad;

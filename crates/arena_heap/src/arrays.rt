@@ -33,7 +33,8 @@ fn are_used(used: u32, at: u32, words: u32) -> bool
 pub fn header_at(machine: &Machine, used: u32, array: u32) -> Option<Header>
     requires { used ≤ arena_limit }
     ensures there { IsSome result ↔ IsTrue (is_array machine.now.memory.arena used array) }
-    ensures read { IfSome result (λ h. IsHeader machine.now.memory.arena array h × FitsArena (behind_words used) array h) }
+    ensures read { IfSome result
+        (λ h. IsHeader machine.now.memory.arena array h × FitsArena (behind_words used) array h) }
 {
     if !are_used(used, array, 4) {
         return None;
@@ -78,7 +79,8 @@ fn copy(machine: &mut Machine, from: u32, to: u32, count: u32)
     requires behind { 0 < count → from + 4 * count ≤ to }
     requires to { IsArenaWord to }
     requires room { to + 4 * count ≤ stack_at }
-    ensures { machine.new ≡ with_arena machine.old (put_words machine.old.memory.arena to (words_from machine.old.memory.arena count from)) }
+    ensures { machine.new ≡ with_arena machine.old
+        (put_words machine.old.memory.arena to (words_from machine.old.memory.arena count from)) }
 {
     for k in 0..count {
         let word = arena_word(machine, from + 4 * k);

@@ -131,7 +131,8 @@ module _ (Is : Value → ℕ → Type 0) (class_word : ℕ → ℕ) where
 
   -- The turn of the service that puts a value behind an array's items: it goes on, or takes the words to which the array moves. The arena shows the heap then.
   abbrev pub PushedBy : {N : Type 0} → Fiber → Shared → ℕ → HeapOf N → Turn Fiber Shared → Type 0
-  PushedBy f t zero h u = (arena : List ℕ) × (u ≡ Goes f (record t { arena = arena })) × Shows Is class_word h t.used t.globals arena
+  PushedBy f t zero h u =
+      (arena : List ℕ) × (u ≡ Goes f (record t { arena = arena })) × Shows Is class_word h t.used t.globals arena
   PushedBy f t (suc n) h u =
       (arena : ℕ → List ℕ) × (u ≡ Takes (suc n) (λ used. (f, record t { arena = arena used; used = used + suc n })))
       × (t.used + suc n ≤ arena_words → Shows Is class_word h (t.used + suc n) t.globals (arena t.used))

@@ -4,7 +4,8 @@ use Rattle.thumb_code.specs.Forms.{Access}
 use Rattle.thumb_code.specs.Map.{arena_at, stack_at}
 use Rattle.thumb_code.specs.Ram.{Ram, ram_store}
 
-base_of_cases : (b c : Bool) (x y z : Ram) (n : ℕ) → x.base ≡ n → y.base ≡ n → z.base ≡ n → (cond b x (cond c y z)).base ≡ n
+base_of_cases : (b c : Bool) (x y z : Ram) (n : ℕ) → x.base ≡ n → y.base ≡ n → z.base ≡ n
+    → (cond b x (cond c y z)).base ≡ n
 base_of_cases true c x y z n p q r = p
 base_of_cases false true x y z n p q r = q
 base_of_cases false false x y z n p q r = r

@@ -24,7 +24,8 @@ pub fn execute<M: Memory>(
     memory: &mut M,
 ) -> Turn
     requires { Fits instr }
-    ensures row { Does M.memory memory.old (effect (behind registers.old.pc wide) registers.old instr) result registers.old registers.new memory.new }
+    ensures row { Does M.memory memory.old
+        (effect (behind registers.old.pc wide) registers.old instr) result registers.old registers.new memory.new }
     ensures flags { registers.old.flags < 16 → registers.new.flags < 16 }
 {
     let next = registers.pc.wrapping_add(size(wide));

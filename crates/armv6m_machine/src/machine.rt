@@ -64,7 +64,8 @@ impl Machine {
 
     /// What stands at PC, and whether it is two halfwords; or a fault and its address.
     fn fetch(&self) -> Result<(Instr, bool), (Fault, u32)>
-        ensures value { IsFetch result self.now.registers.pc (fetched self.now.memory.flash self.now.memory.base self.now.registers.pc) }
+        ensures value { IsFetch result self.now.registers.pc
+            (fetched self.now.memory.flash self.now.memory.base self.now.registers.pc) }
         ensures instruction { IfOk result IsInstruction }
     {
         let pc = self.registers.pc;

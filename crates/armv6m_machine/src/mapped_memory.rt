@@ -44,7 +44,8 @@ impl Model for MappedMemory {
 
     ghost view = { λ m. record { flash = m.flash; globals = m.globals.items; arena = m.arena.items; stack = m.stack.items; base = m.base } };
 
-    ghost invariant = { λ m. (vec_len m.globals ≡ 256) × (vec_len m.arena ≡ arena_words) × (vec_len m.stack ≡ 1024) × (m.sound ≡ is_base m.base) };
+    ghost invariant = { λ m. (vec_len m.globals ≡ 256) × (vec_len m.arena ≡ arena_words) × (vec_len m.stack ≡ 1024)
+        × (m.sound ≡ is_base m.base) };
 }
 
 /// So many words of 0.

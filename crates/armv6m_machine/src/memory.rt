@@ -41,12 +41,16 @@ pub trait Memory {
         ensures { result ≡ memory.has_sp self.now sp };
 
     // Neither a load nor a store changes which accesses are faults.
-    ghost load_keeps: { (m : Self) (a b : Access) (s : Bool) → memory.fault (memory.load m a).1 s b ≡ memory.fault m s b };
+    ghost load_keeps: { (m : Self) (a b : Access) (s : Bool)
+        → memory.fault (memory.load m a).1 s b ≡ memory.fault m s b };
 
-    ghost store_keeps: { (m : Self) (a b : Access) (v : ℕ) (s : Bool) → memory.fault (memory.store m a v) s b ≡ memory.fault m s b };
+    ghost store_keeps: { (m : Self) (a b : Access) (v : ℕ) (s : Bool)
+        → memory.fault (memory.store m a v) s b ≡ memory.fault m s b };
 
     // Nor which SP is in range.
-    ghost load_keeps_sp: { (m : Self) (a : Access) (sp : ℕ) → memory.has_sp (memory.load m a).1 sp ≡ memory.has_sp m sp };
+    ghost load_keeps_sp: { (m : Self) (a : Access) (sp : ℕ)
+        → memory.has_sp (memory.load m a).1 sp ≡ memory.has_sp m sp };
 
-    ghost store_keeps_sp: { (m : Self) (a : Access) (v sp : ℕ) → memory.has_sp (memory.store m a v) sp ≡ memory.has_sp m sp };
+    ghost store_keeps_sp: { (m : Self) (a : Access) (v sp : ℕ)
+        → memory.has_sp (memory.store m a v) sp ≡ memory.has_sp m sp };
 }

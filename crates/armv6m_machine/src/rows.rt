@@ -32,7 +32,8 @@ pub fn go<M: Memory>(memory: &M, registers: &mut Registers, to: u32) -> Turn
 #[inline(always)]
 pub fn puts<M: Memory>(memory: &M, registers: &mut Registers, next: u32, rd: u8, v: u32) -> Turn
     requires { rd < 13 }
-    ensures row { Does M.memory memory.now (putting next registers.old rd v) result registers.old registers.new memory.now }
+    ensures row { Does M.memory memory.now
+        (putting next registers.old rd v) result registers.old registers.new memory.now }
     ensures flags { registers.new.flags ≡ registers.old.flags }
 {
     if !memory.stack_in_range(registers.sp) {
@@ -54,7 +55,8 @@ pub fn writes<M: Memory>(
 ) -> Turn
     requires registers { rd < 13 }
     requires flags { found.1 < 16 }
-    ensures row { Does M.memory memory.now (writing next registers.old rd found.0 found.1) result registers.old registers.new memory.now }
+    ensures row { Does M.memory memory.now
+        (writing next registers.old rd found.0 found.1) result registers.old registers.new memory.now }
     ensures flags { registers.old.flags < 16 → registers.new.flags < 16 }
 {
     if !memory.stack_in_range(registers.sp) {
@@ -70,7 +72,8 @@ pub fn writes<M: Memory>(
 #[inline(always)]
 pub fn flags_are<M: Memory>(memory: &M, registers: &mut Registers, next: u32, flags: u8) -> Turn
     requires { flags < 16 }
-    ensures row { Does M.memory memory.now (flagging next registers.old flags) result registers.old registers.new memory.now }
+    ensures row { Does M.memory memory.now
+        (flagging next registers.old flags) result registers.old registers.new memory.now }
     ensures flags { registers.old.flags < 16 → registers.new.flags < 16 }
 {
     if !memory.stack_in_range(registers.sp) {
@@ -83,7 +86,8 @@ pub fn flags_are<M: Memory>(memory: &M, registers: &mut Registers, next: u32, fl
 
 /// N and Z of a word.
 pub fn tests<M: Memory>(memory: &M, registers: &mut Registers, next: u32, v: u32) -> Turn
-    ensures row { Does M.memory memory.now (flagging next registers.old (flags_of_word registers.old.flags v)) result registers.old registers.new memory.now }
+    ensures row { Does M.memory memory.now (flagging next registers.old (flags_of_word registers.old.flags v)) result
+        registers.old registers.new memory.now }
     ensures flags { registers.old.flags < 16 → registers.new.flags < 16 }
 {
     flags_are(memory, registers, next, nz(registers.flags, v))
@@ -97,7 +101,8 @@ pub fn compares_sum<M: Memory>(
     x: u32,
     y: u32,
 ) -> Turn
-    ensures row { Does M.memory memory.now (flagging next registers.old (sum_flags x y 0)) result registers.old registers.new memory.now }
+    ensures row { Does M.memory memory.now
+        (flagging next registers.old (sum_flags x y 0)) result registers.old registers.new memory.now }
     ensures flags { registers.old.flags < 16 → registers.new.flags < 16 }
 {
     flags_are(memory, registers, next, add_with_carry(x, y, 0).1)
@@ -112,7 +117,8 @@ pub fn shifts_left<M: Memory>(
     rm: u8,
 ) -> Turn
     requires { (rdn < 13) × (rm < 13) }
-    ensures row { Does M.memory memory.now (shifting next registers.old rdn lsl_of (low_of registers.old rdn) (low_of registers.old rm % 256)) result registers.old registers.new memory.now }
+    ensures row { Does M.memory memory.now (shifting next registers.old rdn lsl_of (low_of registers.old rdn)
+        (low_of registers.old rm % 256)) result registers.old registers.new memory.now }
     ensures flags { registers.old.flags < 16 → registers.new.flags < 16 }
 {
     writes(
@@ -137,7 +143,8 @@ pub fn shifts_right<M: Memory>(
     rm: u8,
 ) -> Turn
     requires { (rdn < 13) × (rm < 13) }
-    ensures row { Does M.memory memory.now (shifting next registers.old rdn lsr_of (low_of registers.old rdn) (low_of registers.old rm % 256)) result registers.old registers.new memory.now }
+    ensures row { Does M.memory memory.now (shifting next registers.old rdn lsr_of (low_of registers.old rdn)
+        (low_of registers.old rm % 256)) result registers.old registers.new memory.now }
     ensures flags { registers.old.flags < 16 → registers.new.flags < 16 }
 {
     writes(
@@ -162,7 +169,8 @@ pub fn shifts_signed<M: Memory>(
     rm: u8,
 ) -> Turn
     requires { (rdn < 13) × (rm < 13) }
-    ensures row { Does M.memory memory.now (shifting next registers.old rdn asr_of (low_of registers.old rdn) (low_of registers.old rm % 256)) result registers.old registers.new memory.now }
+    ensures row { Does M.memory memory.now (shifting next registers.old rdn asr_of (low_of registers.old rdn)
+        (low_of registers.old rm % 256)) result registers.old registers.new memory.now }
     ensures flags { registers.old.flags < 16 → registers.new.flags < 16 }
 {
     writes(
@@ -181,7 +189,8 @@ pub fn shifts_signed<M: Memory>(
 /// A low register rotated to the right by the low byte of another.
 pub fn rotates<M: Memory>(memory: &M, registers: &mut Registers, next: u32, rdn: u8, rm: u8) -> Turn
     requires { (rdn < 13) × (rm < 13) }
-    ensures row { Does M.memory memory.now (shifting next registers.old rdn ror_of (low_of registers.old rdn) (low_of registers.old rm % 256)) result registers.old registers.new memory.now }
+    ensures row { Does M.memory memory.now (shifting next registers.old rdn ror_of (low_of registers.old rdn)
+        (low_of registers.old rm % 256)) result registers.old registers.new memory.now }
     ensures flags { registers.old.flags < 16 → registers.new.flags < 16 }
 {
     writes(
@@ -207,7 +216,9 @@ pub fn branches<M: Memory>(
     offset: i32,
 ) -> Turn
     requires { cond < 14 }
-    ensures row { Does M.memory memory.now (if condition_holds registers.old.flags cond then going (target_of registers.old offset) registers.old else going next registers.old) result registers.old registers.new memory.now }
+    ensures row { Does M.memory memory.now (if condition_holds registers.old.flags cond
+        then going (target_of registers.old offset) registers.old
+        else going next registers.old) result registers.old registers.new memory.now }
     ensures flags { registers.new.flags ≡ registers.old.flags }
 {
     if holds(registers.flags, cond) {
@@ -229,7 +240,8 @@ pub fn adds<M: Memory>(
     c: u32,
 ) -> Turn
     requires { (rd < 13) × (c < 2) }
-    ensures row { Does M.memory memory.now (adding next registers.old rd x y c) result registers.old registers.new memory.now }
+    ensures row { Does M.memory memory.now
+        (adding next registers.old rd x y c) result registers.old registers.new memory.now }
     ensures flags { registers.old.flags < 16 → registers.new.flags < 16 }
 {
     writes(memory, registers, next, rd, add_with_carry(x, y, c))
@@ -246,7 +258,8 @@ pub fn subs<M: Memory>(
     y: u32,
 ) -> Turn
     requires { rd < 13 }
-    ensures row { Does M.memory memory.now (subtracting next registers.old rd x y) result registers.old registers.new memory.now }
+    ensures row { Does M.memory memory.now
+        (subtracting next registers.old rd x y) result registers.old registers.new memory.now }
     ensures flags { registers.old.flags < 16 → registers.new.flags < 16 }
 {
     adds(memory, registers, next, rd, x, u32::MAX - y, 1)
@@ -255,7 +268,8 @@ pub fn subs<M: Memory>(
 /// The flags of a difference.
 #[inline(always)]
 pub fn compares<M: Memory>(memory: &M, registers: &mut Registers, next: u32, x: u32, y: u32) -> Turn
-    ensures row { Does M.memory memory.now (comparing next registers.old x y) result registers.old registers.new memory.now }
+    ensures row { Does M.memory memory.now
+        (comparing next registers.old x y) result registers.old registers.new memory.now }
     ensures flags { registers.old.flags < 16 → registers.new.flags < 16 }
 {
     flags_are(
@@ -270,7 +284,8 @@ pub fn compares<M: Memory>(memory: &M, registers: &mut Registers, next: u32, x: 
 #[inline(always)]
 pub fn logic<M: Memory>(memory: &M, registers: &mut Registers, next: u32, rd: u8, v: u32) -> Turn
     requires { rd < 13 }
-    ensures row { Does M.memory memory.now (reckoning next registers.old rd v) result registers.old registers.new memory.now }
+    ensures row { Does M.memory memory.now
+        (reckoning next registers.old rd v) result registers.old registers.new memory.now }
     ensures flags { registers.old.flags < 16 → registers.new.flags < 16 }
 {
     writes(memory, registers, next, rd, (v, nz(registers.flags, v)))
@@ -279,7 +294,8 @@ pub fn logic<M: Memory>(memory: &M, registers: &mut Registers, next: u32, rd: u8
 /// A word into any of the sixteen registers.
 pub fn moves<M: Memory>(memory: &M, registers: &mut Registers, next: u32, rd: u8, v: u32) -> Turn
     requires { rd < 16 }
-    ensures row { Does M.memory memory.now (moving next registers.old rd v) result registers.old registers.new memory.now }
+    ensures row { Does M.memory memory.now
+        (moving next registers.old rd v) result registers.old registers.new memory.now }
     ensures flags { registers.new.flags ≡ registers.old.flags }
 {
     let sp = if rd == 13 { v / 4 * 4 } else { registers.sp };
@@ -299,7 +315,8 @@ pub fn moves<M: Memory>(memory: &M, registers: &mut Registers, next: u32, rd: u8
 /// To another SP.
 #[inline(always)]
 pub fn moves_sp<M: Memory>(memory: &M, registers: &mut Registers, next: u32, sp: u32) -> Turn
-    ensures row { Does M.memory memory.now (going next (record registers.old { sp = sp })) result registers.old registers.new memory.now }
+    ensures row { Does M.memory memory.now
+        (going next (record registers.old { sp = sp })) result registers.old registers.new memory.now }
     ensures flags { registers.new.flags ≡ registers.old.flags }
 {
     if !memory.stack_in_range(sp) {
@@ -312,7 +329,8 @@ pub fn moves_sp<M: Memory>(memory: &M, registers: &mut Registers, next: u32, sp:
 
 /// To an address with bit 0 set, with this LR.
 pub fn jumps<M: Memory>(memory: &M, registers: &mut Registers, lr: u32, to: u32) -> Turn
-    ensures row { Does M.memory memory.now (ends registers.old.sp (jumping (record registers.old { lr = lr }) to)) result registers.old registers.new memory.now }
+    ensures row { Does M.memory memory.now (ends registers.old.sp (jumping (record registers.old { lr = lr }) to))
+        result registers.old registers.new memory.now }
     ensures flags { registers.new.flags ≡ registers.old.flags }
 {
     if !memory.stack_in_range(registers.sp) {
@@ -328,7 +346,8 @@ pub fn jumps<M: Memory>(memory: &M, registers: &mut Registers, lr: u32, to: u32)
 
 /// A fault of the instruction's own.
 pub fn stops<M: Memory>(memory: &M, registers: &Registers, fault: Fault) -> Turn
-    ensures { Does M.memory memory.now (ends registers.now.sp (Stops (number_of fault))) result registers.now registers.now memory.now }
+    ensures { Does M.memory memory.now
+        (ends registers.now.sp (Stops (number_of fault))) result registers.now registers.now memory.now }
 {
     if !memory.stack_in_range(registers.sp) {
         return Turn::Fault(Fault::StackRange, registers.pc);
@@ -338,7 +357,8 @@ pub fn stops<M: Memory>(memory: &M, registers: &Registers, fault: Fault) -> Turn
 
 /// Asks for a service.
 pub fn asks<M: Memory>(memory: &M, registers: &mut Registers, next: u32, service: u8) -> Turn
-    ensures row { Does M.memory memory.now (ends registers.old.sp (Asks service (record registers.old { pc = next }))) result registers.old registers.new memory.now }
+    ensures row { Does M.memory memory.now (ends registers.old.sp (Asks service (record registers.old { pc = next })))
+        result registers.old registers.new memory.now }
     ensures flags { registers.new.flags ≡ registers.old.flags }
 {
     if !memory.stack_in_range(registers.sp) {
@@ -360,7 +380,8 @@ pub fn loads<M: Memory>(
 ) -> Turn
     requires size { IsSize bytes }
     requires rt { rt < 13 }
-    ensures row { Does M.memory memory.old (load_from next registers.old rt unsigned (record { at = at; bytes = bytes })) result registers.old registers.new memory.new }
+    ensures row { Does M.memory memory.old (load_from next registers.old rt unsigned
+        (record { at = at; bytes = bytes })) result registers.old registers.new memory.new }
     ensures flags { registers.new.flags ≡ registers.old.flags }
 {
     if !memory.stack_in_range(registers.sp) {
@@ -386,7 +407,8 @@ pub fn stores<M: Memory>(
 ) -> Turn
     requires size { IsSize bytes }
     requires rt { rt < 13 }
-    ensures row { Does M.memory memory.old (store_to next registers.old rt (record { at = at; bytes = bytes })) result registers.old registers.new memory.new }
+    ensures row { Does M.memory memory.old (store_to next registers.old rt (record { at = at; bytes = bytes })) result
+        registers.old registers.new memory.new }
     ensures flags { registers.new.flags ≡ registers.old.flags }
 {
     if !memory.stack_in_range(registers.sp) {
@@ -411,7 +433,8 @@ pub fn loads_signed<M: Memory>(
 ) -> Turn
     requires size { (bytes ≡ 1) ⊎ (bytes ≡ 2) }
     requires rt { rt < 13 }
-    ensures row { Does M.memory memory.old (load_from next registers.old rt (extended (bytes * 8)) (record { at = at; bytes = bytes })) result registers.old registers.new memory.new }
+    ensures row { Does M.memory memory.old (load_from next registers.old rt (extended (bytes * 8))
+        (record { at = at; bytes = bytes })) result registers.old registers.new memory.new }
     ensures flags { registers.new.flags ≡ registers.old.flags }
 {
     if !memory.stack_in_range(registers.sp) {
@@ -432,7 +455,8 @@ pub fn loads_signed<M: Memory>(
 
 /// To another address, with the next one and bit 0 in LR.
 pub fn calls<M: Memory>(memory: &M, registers: &mut Registers, next: u32, offset: i32) -> Turn
-    ensures row { Does M.memory memory.now (going (target_of registers.old offset) (record registers.old { lr = word (next + 1) })) result registers.old registers.new memory.now }
+    ensures row { Does M.memory memory.now (going (target_of registers.old offset)
+        (record registers.old { lr = word (next + 1) })) result registers.old registers.new memory.now }
     ensures flags { registers.new.flags ≡ registers.old.flags }
 {
     if !memory.stack_in_range(registers.sp) {

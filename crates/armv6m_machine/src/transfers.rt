@@ -37,7 +37,8 @@ pub fn count(list: u8) -> u32
 /// Loads the registers of a list from an address on.
 pub fn fill<M: Memory>(memory: &mut M, registers: &mut Registers, list: u8, from: u32)
     requires { first_fault M.memory memory.old false (word_accesses from (length (listed list))) ≡ None }
-    ensures registers { registers.new ≡ record registers.old { r = (loaded M.memory registers.old.r memory.old from (listed list)).0 } }
+    ensures registers { registers.new
+        ≡ record registers.old { r = (loaded M.memory registers.old.r memory.old from (listed list)).0 } }
     ensures memory { memory.new ≡ (loaded M.memory registers.old.r memory.old from (listed list)).1 }
 {
     let mut at = from;
@@ -69,7 +70,8 @@ pub fn spill<M: Memory>(memory: &mut M, registers: &Registers, list: u8, from: u
 
 /// PUSH of the list: the words below SP, which goes down to the first.
 pub fn pushes<M: Memory>(memory: &mut M, registers: &mut Registers, next: u32, list: u8) -> Turn
-    ensures row { Does M.memory memory.old (effect next registers.old (Push list false)) result registers.old registers.new memory.new }
+    ensures row { Does M.memory memory.old
+        (effect next registers.old (Push list false)) result registers.old registers.new memory.new }
     ensures flags { registers.new.flags ≡ registers.old.flags }
 {
     let n = count(list);
@@ -88,7 +90,8 @@ pub fn pushes<M: Memory>(memory: &mut M, registers: &mut Registers, next: u32, l
 
 /// PUSH of the list and LR.
 pub fn pushes_lr<M: Memory>(memory: &mut M, registers: &mut Registers, next: u32, list: u8) -> Turn
-    ensures row { Does M.memory memory.old (effect next registers.old (Push list true)) result registers.old registers.new memory.new }
+    ensures row { Does M.memory memory.old
+        (effect next registers.old (Push list true)) result registers.old registers.new memory.new }
     ensures flags { registers.new.flags ≡ registers.old.flags }
 {
     let n = count(list);
@@ -108,7 +111,8 @@ pub fn pushes_lr<M: Memory>(memory: &mut M, registers: &mut Registers, next: u32
 
 /// POP of the list: the words from SP on into the registers; SP goes up behind the last.
 pub fn pops<M: Memory>(memory: &mut M, registers: &mut Registers, next: u32, list: u8) -> Turn
-    ensures row { Does M.memory memory.old (effect next registers.old (Pop list false)) result registers.old registers.new memory.new }
+    ensures row { Does M.memory memory.old
+        (effect next registers.old (Pop list false)) result registers.old registers.new memory.new }
     ensures flags { registers.new.flags ≡ registers.old.flags }
 {
     let n = count(list);
@@ -128,7 +132,8 @@ pub fn pops<M: Memory>(memory: &mut M, registers: &mut Registers, next: u32, lis
 
 /// POP of the list and PC. Where PC's word has bit 0 clear, the registers stay.
 pub fn pops_pc<M: Memory>(memory: &mut M, registers: &mut Registers, next: u32, list: u8) -> Turn
-    ensures row { Does M.memory memory.old (effect next registers.old (Pop list true)) result registers.old registers.new memory.new }
+    ensures row { Does M.memory memory.old
+        (effect next registers.old (Pop list true)) result registers.old registers.new memory.new }
     ensures flags { registers.new.flags ≡ registers.old.flags }
 {
     let n = count(list);
@@ -161,7 +166,8 @@ pub fn stores_many<M: Memory>(
     list: u8,
 ) -> Turn
     requires { rn < 8 }
-    ensures row { Does M.memory memory.old (effect next registers.old (Stm rn list)) result registers.old registers.new memory.new }
+    ensures row { Does M.memory memory.old
+        (effect next registers.old (Stm rn list)) result registers.old registers.new memory.new }
     ensures flags { registers.new.flags ≡ registers.old.flags }
 {
     if !memory.stack_in_range(registers.sp) {
@@ -187,7 +193,8 @@ pub fn loads_many<M: Memory>(
     list: u8,
 ) -> Turn
     requires { rn < 8 }
-    ensures row { Does M.memory memory.old (effect next registers.old (Ldm rn list)) result registers.old registers.new memory.new }
+    ensures row { Does M.memory memory.old
+        (effect next registers.old (Ldm rn list)) result registers.old registers.new memory.new }
     ensures flags { registers.new.flags ≡ registers.old.flags }
 {
     if !memory.stack_in_range(registers.sp) {

@@ -17,7 +17,8 @@ first_byte (byte ∷ rest) = byte
 -- a text in quotes that its quote doesn't close
 abbrev pub is_unclosed_text : List ℕ → Bool
 is_unclosed_text word =
-    opens_text (first_byte word) && (nat_lt (length word) 2 || not (slice_index word (length word - 1) == first_byte word))
+    opens_text (first_byte word)
+    && (nat_lt (length word) 2 || not (slice_index word (length word - 1) == first_byte word))
 
 -- a word is as asked
 abbrev pub WordIsAsked : Test → List ℕ → Type 0
@@ -74,7 +75,8 @@ pub record RowFits (row : Row) (seen : Surroundings) : Type 0 where
 -- the first row that fits, or none where none does
 abbrev pub IsFirstFit : List Row → Surroundings → Option Row → Type 0
 IsFirstFit [] seen found = found ≡ None
-IsFirstFit (row ∷ rows) seen found = (RowFits row seen × (found ≡ Some row)) ⊎ ((RowFits row seen → ⊥) × IsFirstFit rows seen found)
+IsFirstFit (row ∷ rows) seen found =
+    (RowFits row seen × (found ≡ Some row)) ⊎ ((RowFits row seen → ⊥) × IsFirstFit rows seen found)
 
 -- the same over tables, one behind the other
 abbrev pub IsFirstOf : List (List Row) → Surroundings → Option Row → Type 0

@@ -52,4 +52,5 @@ Explains tables other text at column said =
 -- a place of that line and column, where the text has one
 abbrev pub IsFound : List ℕ → ℕ → ℕ → ℕ → Type 0
 IsFound text line column at =
-    (at ≤ length text) × ((other : ℕ) → other ≤ length text → IsPlace text other line column → IsPlace text at line column)
+    (at ≤ length text)
+    × ((other : ℕ) → other ≤ length text → IsPlace text other line column → IsPlace text at line column)

@@ -64,7 +64,8 @@ fn is_as_open(word: &[u8], count: usize, all: usize) -> bool
 
 /// The text from the innermost bracket on that is open at its end: the latest one right behind which as many are open as there.
 pub fn innermost<'t>(text: &'t [u8]) -> Option<&'t [u8]>
-    ensures { (words : List (List ℕ)) → AreItsWords text.now words → option_map (λ rest. rest.now) result ≡ spec.innermost_bracket text.now words }
+    ensures { (words : List (List ℕ)) → AreItsWords text.now words
+        → option_map (λ rest. rest.now) result ≡ spec.innermost_bracket text.now words }
 {
     let all = open_count(text);
     let mut found = None;

@@ -88,7 +88,8 @@ pub fn explain_by(
     line: u32,
     column: u32,
 ) -> Explanation
-    ensures { (at : ℕ) × (spec.IsFound text.now line column at × spec.Explains (map (λ table. table.now) tables.now) other text.now at column result) }
+    ensures { (at : ℕ) × (spec.IsFound text.now line column at
+        × spec.Explains (map (λ table. table.now) tables.now) other text.now at column result) }
 {
     let at = place_at(text, line, column);
     let bracket = innermost(&text[..at]);

@@ -27,7 +27,8 @@ fn is_there(lines: usize, start: usize, at: usize, line: u32, column: u32) -> bo
 /// The place of a line and a column, both from 1, in bytes from the beginning of a text; its end where it has no such place.
 pub fn place_at(text: &[u8], line: u32, column: u32) -> usize
     ensures within { result ≤ length text.now }
-    ensures place { (at : ℕ) → at ≤ length text.now → IsPlace text.now at line column → IsPlace text.now result line column }
+    ensures place { (at : ℕ) → at ≤ length text.now → IsPlace text.now at line column
+        → IsPlace text.now result line column }
 {
     if is_there(1, 0, 0, line, column) {
         return 0;

@@ -126,7 +126,8 @@ fn holds(test: Test, word: &[u8]) -> bool
 
 /// Whether a text begins with words as asked, and has no more where it is to be whole.
 fn begins(tests: &[Test], whole: bool, text: &[u8]) -> bool
-    ensures { (words : List (List ℕ)) → AreItsWords text.now words → IsTrue result ↔ spec.BeginsAsAsked tests.now whole words }
+    ensures { (words : List (List ℕ)) → AreItsWords text.now words
+        → IsTrue result ↔ spec.BeginsAsAsked tests.now whole words }
 {
     match tests {
         [] => !whole || is_blank(text),
@@ -165,7 +166,8 @@ fn is_inside(inside: Inside, bracket: Option<u8>) -> bool
 
 /// Whether a row fits.
 fn fits(row: &Row, around: &Around<'_>) -> bool
-    ensures { (seen : spec.Surroundings) → spec.HasTheseWords around.now seen → IsTrue result ↔ spec.RowFits row.now seen }
+    ensures { (seen : spec.Surroundings) → spec.HasTheseWords around.now seen
+        → IsTrue result ↔ spec.RowFits row.now seen }
 {
     is_inside(row.inside, around.bracket)
         && begins(row.at, row.last, around.at)
@@ -175,7 +177,8 @@ fn fits(row: &Row, around: &Around<'_>) -> bool
 
 /// The first row that fits.
 fn first_fitting<'r>(rows: &'r [Row], around: &Around<'_>) -> Option<&'r Row>
-    ensures { (seen : spec.Surroundings) → spec.HasTheseWords around.now seen → spec.IsFirstFit rows.now seen (option_map (λ row. row.now) result) }
+    ensures { (seen : spec.Surroundings) → spec.HasTheseWords around.now seen
+        → spec.IsFirstFit rows.now seen (option_map (λ row. row.now) result) }
 {
     match rows {
         [] => None,
@@ -191,7 +194,8 @@ fn first_fitting<'r>(rows: &'r [Row], around: &Around<'_>) -> Option<&'r Row>
 
 /// The first row that fits of the first table that has one.
 pub fn first_of<'r>(tables: &[&'r [Row]], around: &Around<'_>) -> Option<&'r Row>
-    ensures { (seen : spec.Surroundings) → spec.HasTheseWords around.now seen → spec.IsFirstOf (map (λ table. table.now) tables.now) seen (option_map (λ row. row.now) result) }
+    ensures { (seen : spec.Surroundings) → spec.HasTheseWords around.now seen
+        → spec.IsFirstOf (map (λ table. table.now) tables.now) seen (option_map (λ row. row.now) result) }
 {
     match tables {
         [] => None,

@@ -17,7 +17,8 @@ may_arrive (Unplug port) = false
 
 -- nothing arrives behind no instruction
 abbrev pub arrival_with : Option ℕ → Option Act → Option Arrival
-arrival_with (Some after) (Some act) = only_if (nat_lt 0 after && may_arrive act) (Some (record { after = after; act = act }))
+arrival_with (Some after) (Some act) =
+    only_if (nat_lt 0 after && may_arrive act) (Some (record { after = after; act = act }))
 arrival_with (Some after) None = None
 arrival_with None act = None
 

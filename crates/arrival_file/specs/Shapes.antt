@@ -8,17 +8,20 @@ use Rattle.event_script.specs.declared.script.Act.TheVariants.{Down, Up, Raise, 
 -- {"after": after, "button": button, "do": how}
 abbrev pub press_tree : ℕ → List ℕ → List ℕ → Data
 press_tree after how button =
-    object (member (codes "after") (whole_number after) (member (codes "button") (string button) (member (codes "do") (string how) no_members)))
+    object (member (codes "after") (whole_number after)
+    (member (codes "button") (string button) (member (codes "do") (string how) no_members)))
 
 -- {"after": after, "do": "raise", "source": source, "value": value}
 abbrev pub raise_tree : ℕ → ℕ → ℕ → Data
 raise_tree after source value =
-    object (member (codes "after") (whole_number after) (member (codes "do") (string (codes "raise")) (member (codes "source") (whole_number source) (member (codes "value") (whole_number value) no_members))))
+    object (member (codes "after") (whole_number after) (member (codes "do") (string (codes "raise"))
+    (member (codes "source") (whole_number source) (member (codes "value") (whole_number value) no_members))))
 
 -- {"after": after, "do": "unplug", "port": port}
 abbrev pub unplug_tree : ℕ → ℕ → Data
 unplug_tree after port =
-    object (member (codes "after") (whole_number after) (member (codes "do") (string (codes "unplug")) (member (codes "port") (whole_number port) no_members)))
+    object (member (codes "after") (whole_number after)
+    (member (codes "do") (string (codes "unplug")) (member (codes "port") (whole_number port) no_members)))
 
 -- {"arrivals": items}
 abbrev pub arrivals_tree : Items → Data

@@ -15,29 +15,43 @@ ghost use Rattle.arrival_file.specs.Shapes.{press_tree, raise_tree, unplug_tree,
 /// Each row of the form is an arrival, behind every number of instructions and with every number that it may have; an
 /// unplug is none; and an object of a list of arrivals is that list.
 pub fn rows_are_arrivals()
-    ensures down_a { (n : ℕ) → 0 < n → n ≤ greatest_after → arrival_of (press_tree n (codes "down") (codes "A")) ≡ Some (record { after = n; act = Down 1 }) }
-    ensures down_b { (n : ℕ) → 0 < n → n ≤ greatest_after → arrival_of (press_tree n (codes "down") (codes "B")) ≡ Some (record { after = n; act = Down 2 }) }
-    ensures up_a { (n : ℕ) → 0 < n → n ≤ greatest_after → arrival_of (press_tree n (codes "up") (codes "A")) ≡ Some (record { after = n; act = Up 1 }) }
-    ensures up_b { (n : ℕ) → 0 < n → n ≤ greatest_after → arrival_of (press_tree n (codes "up") (codes "B")) ≡ Some (record { after = n; act = Up 2 }) }
-    ensures raise { (n source value : ℕ) → 0 < n → n ≤ greatest_after → source ≤ greatest_number → value ≤ greatest_number →
-        arrival_of (raise_tree n source value) ≡ Some (record { after = n; act = Raise (record { source = pos source; value = pos value }) }) }
+    ensures down_a { (n : ℕ) → 0 < n → n ≤ greatest_after
+        → arrival_of (press_tree n (codes "down") (codes "A")) ≡ Some (record { after = n; act = Down 1 }) }
+    ensures down_b { (n : ℕ) → 0 < n → n ≤ greatest_after
+        → arrival_of (press_tree n (codes "down") (codes "B")) ≡ Some (record { after = n; act = Down 2 }) }
+    ensures up_a { (n : ℕ) → 0 < n → n ≤ greatest_after
+        → arrival_of (press_tree n (codes "up") (codes "A")) ≡ Some (record { after = n; act = Up 1 }) }
+    ensures up_b { (n : ℕ) → 0 < n → n ≤ greatest_after
+        → arrival_of (press_tree n (codes "up") (codes "B")) ≡ Some (record { after = n; act = Up 2 }) }
+    ensures raise { (n source value : ℕ) → 0 < n → n ≤ greatest_after → source ≤ greatest_number →
+        value ≤ greatest_number →
+        arrival_of (raise_tree n source value)
+        ≡ Some (record { after = n; act = Raise (record { source = pos source; value = pos value }) }) }
     ensures unplug { (n port : ℕ) → arrival_of (unplug_tree n port) ≡ None }
-    ensures lists { (items : Items) (arrivals : List Arrival) → items_of arrival_of items ≡ Some arrivals → arrivals_of (arrivals_tree items) ≡ Some arrivals }
+    ensures lists { (items : Items) (arrivals : List Arrival) → items_of arrival_of items ≡ Some arrivals
+        → arrivals_of (arrivals_tree items) ≡ Some arrivals }
 {}
 
 /// An arrival's object has exactly the members of its row, and the whole exactly `arrivals`.
 pub fn members_are_exact()
     ensures rows { (d : Data) (a : Arrival) → arrival_of d ≡ Some a → HasExactly (names_of a.act) d }
-    ensures lists { (d : Data) (arrivals : List Arrival) → arrivals_of d ≡ Some arrivals → HasExactly (codes "arrivals" ∷ []) d }
+    ensures lists { (d : Data) (arrivals : List Arrival) → arrivals_of d ≡ Some arrivals
+        → HasExactly (codes "arrivals" ∷ []) d }
 {}
 
 /// Small lists, and trees that are none.
 pub fn worked_arrivals()
     ensures none { judged_form (arrivals_of (arrivals_tree no_items)) ≡ Ok [] }
-    ensures rising { judged_form (arrivals_of (two (raise_tree 1 50 7) (press_tree 2147483648 (codes "down") (codes "A")))) ≡ Ok (record { after = 1; act = Raise (record { source = pos 50; value = pos 7 }) } ∷ record { after = 2147483648; act = Down 1 } ∷ []) }
-    ensures equal { judged_form (arrivals_of (two (press_tree 9 (codes "up") (codes "B")) (press_tree 9 (codes "down") (codes "B")))) ≡ Ok (record { after = 9; act = Up 2 } ∷ record { after = 9; act = Down 2 } ∷ []) }
+    ensures rising { judged_form
+        (arrivals_of (two (raise_tree 1 50 7) (press_tree 2147483648 (codes "down") (codes "A"))))
+        ≡ Ok (record { after = 1; act = Raise (record { source = pos 50; value = pos 7 }) }
+        ∷ record { after = 2147483648; act = Down 1 } ∷ []) }
+    ensures equal { judged_form
+        (arrivals_of (two (press_tree 9 (codes "up") (codes "B")) (press_tree 9 (codes "down") (codes "B"))))
+        ≡ Ok (record { after = 9; act = Up 2 } ∷ record { after = 9; act = Down 2 } ∷ []) }
     ensures falling { judged_form (arrivals_of (two (raise_tree 2 50 7) (raise_tree 1 50 7))) ≡ Err OutOfOrder }
     ensures at_once { judged_form (arrivals_of (two (raise_tree 0 50 7) (raise_tree 1 50 7))) ≡ Err NotArrivals }
-    ensures too_late { judged_form (arrivals_of (two (raise_tree 1 50 7) (raise_tree 2147483649 50 7))) ≡ Err NotArrivals }
+    ensures too_late { judged_form (arrivals_of (two (raise_tree 1 50 7) (raise_tree 2147483649 50 7)))
+        ≡ Err NotArrivals }
     ensures unplugged { judged_form (arrivals_of (two (raise_tree 2 50 7) (unplug_tree 1 1))) ≡ Err NotArrivals }
 {}

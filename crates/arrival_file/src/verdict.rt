@@ -30,10 +30,14 @@ pub fn read_arrivals(alloc: Global, bytes: &[u8]) -> Result<Seq<Arrival>, Arriva
     ensures ok { IfOk result (λ arrivals. Tells bytes.now (Ok arrivals)) }
     ensures sound { IfOk result IsSound }
     ensures within_form { IfOk result IsWithinForm }
-    ensures not_json { result ≡ Err (ArrivalRefused.Arrivals ArrivalCode.NotJson) → (tree : Data) → ¬ IsTree bytes.now tree }
-    ensures not_arrivals { result ≡ Err (ArrivalRefused.Arrivals ArrivalCode.NotArrivals) → Tells bytes.now (Err ArrivalCode.NotArrivals) }
-    ensures out_of_order { result ≡ Err (ArrivalRefused.Arrivals ArrivalCode.OutOfOrder) → Tells bytes.now (Err ArrivalCode.OutOfOrder) }
-    ensures too_many { result ≡ Err (ArrivalRefused.Arrivals ArrivalCode.TooMany) → Tells bytes.now (Err ArrivalCode.TooMany) }
+    ensures not_json { result ≡ Err (ArrivalRefused.Arrivals ArrivalCode.NotJson) → (tree : Data)
+        → ¬ IsTree bytes.now tree }
+    ensures not_arrivals { result ≡ Err (ArrivalRefused.Arrivals ArrivalCode.NotArrivals)
+        → Tells bytes.now (Err ArrivalCode.NotArrivals) }
+    ensures out_of_order { result ≡ Err (ArrivalRefused.Arrivals ArrivalCode.OutOfOrder)
+        → Tells bytes.now (Err ArrivalCode.OutOfOrder) }
+    ensures too_many { result ≡ Err (ArrivalRefused.Arrivals ArrivalCode.TooMany)
+        → Tells bytes.now (Err ArrivalCode.TooMany) }
 {
     let tree = match tree_of(alloc, bytes) {
         Ok(tree) => tree,

@@ -68,7 +68,8 @@ with_text flash at f turn =
 abbrev pub allocates : ℕ → Fiber → Shared → Turn Fiber Shared
 allocates at f s =
     if word_argument f 0 == 0 then Faults bad_service at
-    else Takes (word_argument f 0) (λ used. (answered_word f (behind_words used), record s { used = used + word_argument f 0 }))
+    else Takes (word_argument f 0)
+    (λ used. (answered_word f (behind_words used), record s { used = used + word_argument f 0 }))
 
 -- R1 is put behind the items of the array at R0. Where there is no room for it, the array moves to more room behind the used words. One
 -- that isn't sound is BadService.
@@ -79,7 +80,8 @@ pushes at f s =
     unless_null array
     (if is_array s.arena s.used array then
     (if is_full s.arena array
-    then Takes grown (λ used. (f, record s { arena = moved s.arena array item (behind_words used); used = used + grown }))
+    then Takes grown
+    (λ used. (f, record s { arena = moved s.arena array item (behind_words used); used = used + grown }))
     else Goes f (record s { arena = stored s.arena array item }))
     else Faults bad_service at)
 
@@ -96,18 +98,22 @@ service flash at number f s =
     else if number == TIME then asks Time f s
     else if number == EVENT_VALUE then asks Value f s
     else if number == BUTTON then asks (Pressed (argument f 0)) f s
-    else if number == PLOT then (if nat_lt (word_argument f 2) 3 then tells (Plots (argument f 0) (argument f 1) (word_argument f 2)) f s else Faults bad_service at)
+    else if number == PLOT
+    then (if nat_lt (word_argument f 2) 3 then tells (Plots (argument f 0) (argument f 1) (word_argument f 2)) f s
+    else Faults bad_service at)
     else if number == SHOW then tells (Displays (word_argument f 0 % 2 ^ 25)) f s
     else if number == WRITE_NUMBER then tells (Writes (decimal_text (argument f 0))) f s
     else if number == WRITE_TEXT then with_text flash at f (λ bytes. tells (Writes bytes) f s)
     else if number == WRITE_PIN then tells (Sets (argument f 0) (argument f 1)) f s
     else if number == SEND then tells (Sends (argument f 0)) f s
-    else if number == TEXT_GLYPH then with_text flash at f (λ bytes. Goes (answered f (glyph_at bytes (word_argument f 1))) s)
+    else if number == TEXT_GLYPH
+    then with_text flash at f (λ bytes. Goes (answered f (glyph_at bytes (word_argument f 1))) s)
     else if number == NUMBER_GLYPH then Goes (answered f (glyph_at (decimal_text (argument f 0)) (word_argument f 1))) s
     else if number == ALLOCATE then allocates at f s
     else if number == PUSH then pushes at f s
     else if number == DIVIDE then Goes (answered f (quotient (argument f 0) (argument f 1))) s
     else if number == REMAINDER then Goes (answered f (remainder (argument f 0) (argument f 1))) s
-    else if number == LISTEN_IN_MODE then with_code at (word_argument f 2) (Listens (asked_listener f (argument f 3)) f s)
+    else if number == LISTEN_IN_MODE
+    then with_code at (word_argument f 2) (Listens (asked_listener f (argument f 3)) f s)
     else if number == RAISE_NOW then RaisesNow (asked_event f) (begins_above flash f) f s
     else Faults bad_service at

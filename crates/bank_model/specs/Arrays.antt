@@ -56,7 +56,9 @@ items_of arena array = words_from arena (length_of arena array) (items_at arena 
 
 -- The arena behind a push to an array that isn't full: the item is put behind the others, and then the length is written.
 abbrev pub stored : List ℕ → ℕ → ℕ → List ℕ
-stored arena array item = put_word (put_word arena (items_at arena array + 4 * length_of arena array) item) (array + 4) (length_of arena array + 1)
+stored arena array item =
+    put_word (put_word arena (items_at arena array + 4 * length_of arena array) item) (array + 4)
+    (length_of arena array + 1)
 
 -- The arena behind a push to a full one, which moves to an address: the items and the new one are put there, and then the length, the
 -- room and the address are written.

@@ -50,7 +50,8 @@ bank_store b a v =
 -- Where SP goes down, free words come into the bank; where it goes up, the words below it are gone.
 abbrev pub bank_move : Bank × List ℕ → ℕ → Bank × List ℕ
 bank_move m sp =
-    if nat_lt sp (bank_sp m.0) then (let q = lowered ((bank_sp m.0 - sp) / 4) m.0.words m.1 in (record m.0 { words = q.0 }, q.1))
+    if nat_lt sp (bank_sp m.0)
+    then (let q = lowered ((bank_sp m.0 - sp) / 4) m.0.words m.1 in (record m.0 { words = q.0 }, q.1))
     else (record m.0 { words = drop ((sp - bank_sp m.0) / 4) m.0.words }, m.1)
 
 -- The bank and the free words as a memory. Its faults are those of the map.

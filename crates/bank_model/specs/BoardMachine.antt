@@ -15,7 +15,8 @@ use Rattle.bank_model.specs.AllServices.{service}
 
 -- The memory as a fiber has it: flash, what all fibers share, and its own bank.
 abbrev pub memory_of : List ℕ → Fiber → Shared → Bank × List ℕ
-memory_of flash f s = (record { flash = flash; globals = s.globals; arena = s.arena; base = f.base; words = f.bank }, s.free)
+memory_of flash f s =
+    (record { flash = flash; globals = s.globals; arena = s.arena; base = f.base; words = f.bank }, s.free)
 
 -- The fiber with these registers, out of the memory.
 abbrev pub fiber_of : Registers → Bank × List ℕ → Fiber

@@ -34,7 +34,8 @@ pub record IsInside (sp base : ℕ) : Type 0 where
 
 -- The bank of who stands on RAM with this SP.
 abbrev pub bank_on : Ram → ℕ → Bank
-bank_on m sp = record { flash = m.flash; globals = m.globals; arena = m.arena; base = m.base; words = words_in m.stack sp m.base }
+bank_on m sp =
+    record { flash = m.flash; globals = m.globals; arena = m.arena; base = m.base; words = words_in m.stack sp m.base }
 
 -- The fiber that runs on the machine, and what all share, where so many words of the arena are used.
 abbrev pub fiber_on : State → Fiber
@@ -56,7 +57,8 @@ pub record Stands (s : State) : Type 0 where
 -- The turn that the fiber made by a step of the machine, where these free words are left.
 abbrev pub turn_from : List ℕ → ℕ → ℕ → Stepped Ram → List ℕ → Turn Fiber Shared
 turn_from image used at (On r t) rest = Goes (fiber_on (record { registers = r; memory = t })) (shared_on used t rest)
-turn_from image used at (Served number r t) rest = service image at number (fiber_on (record { registers = r; memory = t })) (shared_on used t rest)
+turn_from image used at (Served number r t) rest =
+    service image at number (fiber_on (record { registers = r; memory = t })) (shared_on used t rest)
 turn_from image used at (Faulted kind address) rest = Faults kind address
 
 -- Flash and the base stay, and so does the stack region from the base on.
@@ -81,5 +83,6 @@ StandsAfter (Faulted k at) = Unit {0}
 -- A step of the machine is the fiber's turn: with some free words, which the step alone determines, and whatever is left behind them.
 pub record IsItsTurn (image : List ℕ) (used : ℕ) (s : State) : Type 0 where
   pub taken : List ℕ
-  pub turn : (rest : List ℕ) → fiber_turn image (fiber_on s) (shared_on used s.memory (taken ++ rest)) ≡ turn_from image used s.registers.pc (step s) rest
+  pub turn : (rest : List ℕ) → fiber_turn image (fiber_on s) (shared_on used s.memory (taken ++ rest))
+      ≡ turn_from image used s.registers.pc (step s) rest
   pub after : StandsAfter (step s)

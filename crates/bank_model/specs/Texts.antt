@@ -10,7 +10,9 @@ text_limit = 16384
 
 -- A text stands there: at a multiple of 4, and whole in flash.
 abbrev pub is_text : List ℕ → ℕ → Bool
-is_text flash at = at % 4 == 0 && (in_flash at && (nat_le (flash_word flash at) text_limit && nat_le (at + 4 + flash_word flash at) flash_end))
+is_text flash at =
+    at % 4 == 0
+    && (in_flash at && (nat_le (flash_word flash at) text_limit && nat_le (at + 4 + flash_word flash at) flash_end))
 
 -- So many bytes of flash from an address on.
 abbrev pub flash_bytes : List ℕ → ℕ → ℕ → ByteList

@@ -41,11 +41,13 @@ unsteady = 0
 
 abbrev pub watched_turn : List ℕ → Fiber → Shared → Turn Fiber Shared
 watched_turn flash f s =
-    if goes_steady (memory_of flash f s).0 f.registers (fetched flash f.base f.registers.pc) then fiber_turn flash f s else Faults unsteady f.registers.pc
+    if goes_steady (memory_of flash f s).0 f.registers (fetched flash f.base f.registers.pc) then fiber_turn flash f s
+    else Faults unsteady f.registers.pc
 
 -- Fibers that stop so, and the run of an image.
 abbrev pub watched : List ℕ → Kind Fiber Shared
 watched flash = record (fibers flash) { step = watched_turn flash }
 
 abbrev pub watched_run : List ℕ → ℕ → List Entry → List ℕ → ℕ → World Fiber Shared
-watched_run image until script free n = run (watched image) n (start (watched image) (main_of image) (shared_at_reset free) until script)
+watched_run image until script free n =
+    run (watched image) n (start (watched image) (main_of image) (shared_at_reset free) until script)

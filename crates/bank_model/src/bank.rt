@@ -15,14 +15,16 @@ ghost use Rattle.bank_model.specs.Shows.{Shows, AgreesWithBank};
 /// stands behind it, which stays.
 pub fn bank_follows_ram_at_one_instruction()
     ensures { (i : Instr) (next : ℕ) (s : Registers) (m : Ram) (b : Bank) → Shows s.sp m b
-        → (used : List ℕ) × DoesTheSame Shows (execute ram_memory m (effect next s i)) (λ rest. execute_moving bank_memory bank_move (b, used ++ rest) s.sp (effect next s i)) }
+        → (used : List ℕ) × DoesTheSame Shows (execute ram_memory m (effect next s i))
+        (λ rest. execute_moving bank_memory bank_move (b, used ++ rest) s.sp (effect next s i)) }
 {}
 
 /// What a fiber does over one RAM in one step, fetch and faults included, it does over a bank that agrees, with some list of free
 /// words and whatever stands behind it, which stays.
 pub fn bank_follows_ram_at_one_step()
     ensures { (image : List ℕ) (s : State) (b : Bank) → AgreesWithBank image s.registers.sp s.memory b
-        → (used : List ℕ) × FollowsStep (AgreesWithBank image) (step s) (λ rest. bank_step s.registers (b, used ++ rest)) }
+        → (used : List ℕ)
+        × FollowsStep (AgreesWithBank image) (step s) (λ rest. bank_step s.registers (b, used ++ rest)) }
 {}
 
 /// What a fiber does over one RAM in so many steps, it does over the bank that the RAM shows, with some list of free words and

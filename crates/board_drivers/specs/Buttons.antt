@@ -27,7 +27,8 @@ queue_down button (Some since) q = q
 -- and after it is let go: 2, then 3 for a click, and 4 for a long one
 abbrev pub queue_up : ℕ → ℕ → Option ℕ → List Event → List Event
 queue_up now button None q = q
-queue_up now button (Some since) q = queued (event button (if nat_lt (now - since) click_limit then 3 else 4)) (queued (event button 2) q)
+queue_up now button (Some since) q =
+    queued (event button (if nat_lt (now - since) click_limit then 3 else 4)) (queued (event button 2) q)
 
 -- whether a button is down; there are 1 and 2
 abbrev pub is_down_at : ℤ → Since → Bool

@@ -70,7 +70,8 @@ impl Buttons {
         requires { (button ≡ 1) ⊎ (button ≡ 2) }
         ensures since { self.new ≡ with_since button (held_since now (since_of button self.old)) self.old }
         ensures bus { bus.new ≡ record bus.old { queue = queue_down button (since_of button self.old) bus.old.queue } }
-        ensures board { (b : Board) → HasButtons now self.old bus.old b → HasButtons now self.new bus.new (arrive (Down button) b) }
+        ensures board { (b : Board) → HasButtons now self.old bus.old b
+            → HasButtons now self.new bus.new (arrive (Down button) b) }
     {
         if button == 1 {
             press(&mut self.a, button, now, bus);
@@ -84,8 +85,10 @@ impl Buttons {
     pub fn up(&mut self, button: u8, now: u32, bus: &mut Bus)
         requires { (button ≡ 1) ⊎ (button ≡ 2) }
         ensures since { self.new ≡ with_since button None self.old }
-        ensures bus { bus.new ≡ record bus.old { queue = queue_up now button (since_of button self.old) bus.old.queue } }
-        ensures board { (b : Board) → HasButtons now self.old bus.old b → HasButtons now self.new bus.new (arrive (Up button) b) }
+        ensures bus { bus.new
+            ≡ record bus.old { queue = queue_up now button (since_of button self.old) bus.old.queue } }
+        ensures board { (b : Board) → HasButtons now self.old bus.old b
+            → HasButtons now self.new bus.new (arrive (Up button) b) }
     {
         if button == 1 {
             release(&mut self.a, button, now, bus);
@@ -97,7 +100,8 @@ impl Buttons {
     /// Whether the button is down. There are 1 and 2; every other number is no button, and not down.
     pub fn is_down(&self, button: i32) -> bool
         ensures down { result ≡ is_down_at button self.now }
-        ensures board { (now : ℕ) (bus : BusState) (b : Board) → HasButtons now self.now bus b → pressed button b ≡ flag result }
+        ensures board { (now : ℕ) (bus : BusState) (b : Board) → HasButtons now self.now bus b
+            → pressed button b ≡ flag result }
     {
         match button {
             1 => self.a.is_some(),

@@ -36,7 +36,8 @@ of_run = record { before = λ w. over w.board ≡ false; stops = λ bound. bound
 
 -- The board comes so many instructions further in such a way, and these moves are met.
 abbrev pub ComesBy : Way → List ℕ → ℕ → List Move → BoardState → BoardState → Type 0
-ComesBy way image more moves old new = (bound : Option ℕ) → way.stops bound → ComesThrough way.before bound image more moves old new
+ComesBy way image more moves old new =
+    (bound : Option ℕ) → way.stops bound → ComesThrough way.before bound image more moves old new
 
 -- It executed so many instructions; the sink took the lines of what they met, and the devices have met it.
 pub record Advances {B : Type 0} (account : B → Account) (way : Way) (count : ℕ) (old new : OverSink B) : Type 0 where

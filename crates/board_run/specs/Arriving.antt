@@ -24,8 +24,10 @@ abbrev pub acted_on : BusState → Since → List Move → Board → Board
 acted_on bus s moves b = record b { queue = bus.queue; a_since = s.a_since; b_since = s.b_since; unplugged = b.unplugged ++ unplugged_of (length b.seen) moves }
 
 -- An act did to the bus, the buttons and the devices what it does to each board that has these.
-pub record Applied {B : Type 0} (account : B → Account) (act : Act) (now : ℕ) (since since' : Since) (bus bus' : BusState) (plugged plugged' : Plugged B) : Type 0 where
-  pub board : (b : Board) → HasButtons now since bus b → arrive (world_act act) b ≡ acted_on bus' since' (unplugs_of act) b
+pub record Applied {B : Type 0} (account : B → Account) (act : Act) (now : ℕ) (since since' : Since)
+    (bus bus' : BusState) (plugged plugged' : Plugged B) : Type 0 where
+  pub board : (b : Board) → HasButtons now since bus b
+      → arrive (world_act act) b ≡ acted_on bus' since' (unplugs_of act) b
   pub listeners : bus'.listeners ≡ bus.listeners
   pub ports : PortsMeet account (unplugs_of act) plugged plugged'
 
@@ -34,6 +36,7 @@ pub record Arrived {B : Type 0} (account : B → Account) (old new : Engine) (pl
   pub moves : List Move
   pub silent : seen_of moves ≡ []
   pub board : (b : Board) → HasButtons old.clock old.buttons old.bus b
-      → arrive_all old.clock (world_entries (drop old.next old.script.entries)) b ≡ record (acted_on new.bus new.buttons moves b) { script = world_entries (drop new.next old.script.entries) }
+      → arrive_all old.clock (world_entries (drop old.next old.script.entries)) b
+      ≡ record (acted_on new.bus new.buttons moves b) { script = world_entries (drop new.next old.script.entries) }
   pub listeners : new.bus.listeners ≡ old.bus.listeners
   pub ports : PortsMeet account moves plugged plugged'

@@ -40,5 +40,6 @@ IsFromRecord e = IsSpent e.places × (e.runtime.raisers ≡ [])
 
 -- Where the next fiber comes from a record, the switch copied that record's words; else it stands.
 pub record IsCopiedIn (old new : Engine) : Type 0 where
-  pub copied : (key : ℕ) → IsFromRecord old → Leads key old.runtime.lists.ready → new.switch ≡ copied_behind (length (kept_at old.runtime.pool key).words) old
+  pub copied : (key : ℕ) → IsFromRecord old → Leads key old.runtime.lists.ready
+      → new.switch ≡ copied_behind (length (kept_at old.runtime.pool key).words) old
   pub stands : (IsFromRecord old → ⊥) → new.switch ≡ old.switch

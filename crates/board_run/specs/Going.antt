@@ -38,7 +38,9 @@ next_moment e = earlier (least e.runtime.lists.sleepers) (next_entry (entries_le
 
 -- The next moment at which something comes, with these events, is this one.
 abbrev pub IsDueAt : ℕ → List Event → Engine → Type 0
-IsDueAt t events e = clock_move (least e.runtime.lists.sleepers) (next_entry (with_heard (raised_at t events) (entries_left e))) e.script.end ≡ Jump t
+IsDueAt t events e =
+    clock_move (least e.runtime.lists.sleepers)
+    (next_entry (with_heard (raised_at t events) (entries_left e))) e.script.end ≡ Jump t
 
 -- Nobody is left to go on and no event is queued, and the run isn't over.
 pub record IsResting (e : Engine) : Type 0 where
@@ -47,11 +49,13 @@ pub record IsResting (e : Engine) : Type 0 where
   pub quiet : e.bus.queue ≡ []
 
 -- The clock came to a moment, with these events.
-pub record CameTo {B : Type 0} (account : B → Account) (t : ℕ) (events : List Event) (old new : Engine) (plugged plugged' : Plugged B) : Type 0 where
+pub record CameTo {B : Type 0} (account : B → Account) (t : ℕ) (events : List Event) (old new : Engine)
+    (plugged plugged' : Plugged B) : Type 0 where
   pub moves : List Move
   pub silent : seen_of moves ≡ []
   pub shows : (image : List ℕ) (w : World Fiber Shared) → Represents image (state_of old) w
-      → Represents image (state_of new) (jump t (with_kept t events w)) × Meets moves w.board (jump t (with_kept t events w)).board
+      → Represents image (state_of new) (jump t (with_kept t events w))
+      × Meets moves w.board (jump t (with_kept t events w)).board
   pub ports : PortsMeet account moves plugged plugged'
 
 -- The board shows these worlds, whatever free words follow, and they have met these moves.
@@ -62,7 +66,8 @@ pub record Shows (image : List ℕ) (b : BoardState) (at : List ℕ → World Fi
 
 -- A moment with these events, in so many instructions, before each of which somebody was ready, led from some worlds to those that a board
 -- shows, in whose scripts these events are still to come.
-pub record LeadsTo (image : List ℕ) (t n : ℕ) (events left : List Event) (met : List Move) (at : List ℕ → World Fiber Shared) (new : BoardState) : Type 0 where
+pub record LeadsTo (image : List ℕ) (t n : ℕ) (events left : List Event) (met : List Move)
+    (at : List ℕ → World Fiber Shared) (new : BoardState) : Type 0 where
   pub used : List ℕ
   pub worlds : List ℕ → World Fiber Shared
   pub shown : Shows image new worlds met
@@ -73,10 +78,13 @@ pub record LeadsTo (image : List ℕ) (t n : ℕ) (events left : List Event) (me
 -- come to. Events are left where the run or its budget ended before they were raised.
 abbrev pub Goes : List ℕ → (t n : ℕ) → (events left : List Event) → List Move → BoardState → BoardState → Type 0
 Goes image t n events left moves old new =
-    (at : List ℕ → World Fiber Shared) (met : List Move) → Shows image old at met → LeadsTo image t n events left (met ++ moves) at new
+    (at : List ℕ → World Fiber Shared) (met : List Move) → Shows image old at met
+    → LeadsTo image t n events left (met ++ moves) at new
 
 -- So many instructions of such a moment see this, whatever is behind the free words that they use.
-pub record Sees (image : List ℕ) (t n : ℕ) (events : List Event) (seen : List Observation) (at : List ℕ → World Fiber Shared) : Type 0 where
+pub record Sees (image : List ℕ) (t n : ℕ) (events : List Event) (seen : List Observation)
+    (at : List ℕ → World Fiber Shared) : Type 0 where
   pub used : List ℕ
-  pub saw : (rest : List ℕ) → (moment_run (fibers image) t n events (at (used ++ rest))).board.seen ≡ (at (used ++ rest)).board.seen ++ seen
+  pub saw : (rest : List ℕ)
+      → (moment_run (fibers image) t n events (at (used ++ rest))).board.seen ≡ (at (used ++ rest)).board.seen ++ seen
   pub busy : (rest : List ℕ) (j : ℕ) → j < n → IsBusy (moment_run (fibers image) t j events (at (used ++ rest)))

@@ -14,4 +14,5 @@ pub record IsEmpty (b : BoardState) : Type 0 where
 -- Each idle move makes this less: a dispatch takes an event, a moment wakes a sleeper or applies an entry, which raises two at most, and else
 -- the run ends.
 abbrev pub moves_left : BoardState → ℕ
-moves_left b = length b.bus.queue + 3 * length b.plain.script + length b.runtime.lists.sleepers + (if over b.plain then 0 else 1)
+moves_left b =
+    length b.bus.queue + 3 * length b.plain.script + length b.runtime.lists.sleepers + (if over b.plain then 0 else 1)

@@ -27,7 +27,9 @@ pub record Closed {B : Type 0} (account : B → Account) (most : ℕ) (old new :
 -- failed in the line of an observation.
 abbrev pub Parted : {B : Type 0} → (B → Account) → ℕ → OverSink B → OverSink B → Option End → Type 0
 Parted account most old new None = HasExecuted account most most old new × (new.board.engine.end ≡ None)
-Parted account most old new (Some answer) = Closed account most old new answer ⊎ (Fails account of_run most old new × (answer ≡ SinkFault) × Rose old.faults new.faults)
+Parted account most old new (Some answer) =
+    Closed account most old new answer
+    ⊎ (Fails account of_run most old new × (answer ≡ SinkFault) × Rose old.faults new.faults)
 
 -- an act that arrives is no unplug
 abbrev pub MayArrive : Act → Type 0
@@ -38,4 +40,5 @@ MayArrive (Unplug port) = ⊥
 
 -- The board shows what an act makes of each world that it showed.
 abbrev pub Arrives : Act → BoardState → BoardState → Type 0
-Arrives act old new = (image : List ℕ) (w : World Fiber Shared) → Represents image old w → Represents image new (acts act w)
+Arrives act old new =
+    (image : List ℕ) (w : World Fiber Shared) → Represents image old w → Represents image new (acts act w)

@@ -21,7 +21,8 @@ first_sent numbers [] = numbers
 first_sent numbers (Show at frame ∷ os) = first_sent numbers os
 first_sent numbers (Serial at bytes ∷ os) = first_sent numbers os
 first_sent numbers (Pin at pin level ∷ os) = first_sent numbers os
-first_sent numbers (Radio at number ∷ os) = first_sent (if nat_lt (length numbers) 32 then numbers ++ number ∷ [] else numbers) os
+first_sent numbers (Radio at number ∷ os) =
+    first_sent (if nat_lt (length numbers) 32 then numbers ++ number ∷ [] else numbers) os
 
 -- what is put before the line of what an instruction showed
 abbrev pub lead_before : ByteList → Output → ByteList
@@ -42,7 +43,8 @@ abbrev pub of_moment : ByteList → Way
 of_moment lead = record { before = IsBusy; stops = λ bound. Unit {0}; lead = lead }
 
 -- The board came so many instructions further while the clock stood, and the first numbers that were sent are kept.
-pub record Proceeds {B : Type 0} (account : B → Account) (lead : ByteList) (count : ℕ) (old new : OverSink B) : Type 0 where
+pub record Proceeds {B : Type 0} (account : B → Account) (lead : ByteList) (count : ℕ)
+    (old new : OverSink B) : Type 0 where
   pub advances : Advances account (of_moment lead) count old new
   pub sent : new.board.sent ≡ first_sent old.board.sent (seen_of advances.moves)
 
@@ -58,7 +60,8 @@ pub record Stands {B : Type 0} (old new : Board B) : Type 0 where
   pub next : new.engine.next ≡ old.engine.next
 
 -- A board made this number of instructions: as many as it might, or nobody is left to go on now.
-pub record HasProceeded {B : Type 0} (account : B → Account) (lead : ByteList) (count most : ℕ) (old new : OverSink B) : Type 0 where
+pub record HasProceeded {B : Type 0} (account : B → Account) (lead : ByteList) (count most : ℕ)
+    (old new : OverSink B) : Type 0 where
   pub proceeds : Proceeds account lead count old new
   pub within : count ≤ most
   pub done : (count ≡ most) ⊎ (new.board.engine.runtime.running ≡ None ⊎ IsSome new.board.engine.end)

@@ -34,7 +34,8 @@ world_after image script free n = bank_run image script.end (world_entries scrip
 -- A board that has this image and script, and has done nothing yet: whatever the free words are, it shows the bank machine as a run begins.
 pub record IsMounted (image : List ℕ) (script : EventScript) (e : Engine) : Type 0 where
   pub whole : IsWhole e 0
-  pub begins : (free : List ℕ) → Represents image (state_of e) (bank_start image script.end (world_entries script.entries) free)
+  pub begins : (free : List ℕ)
+      → Represents image (state_of e) (bank_start image script.end (world_entries script.entries) free)
 
 -- So many instructions are executed of at most a budget: the run is over after them and wasn't over before, or they are the whole budget.
 pub record IsExecuted (at : ℕ → World Fiber Shared) (budget executed : ℕ) : Type 0 where
@@ -45,24 +46,29 @@ pub record IsExecuted (at : ℕ → World Fiber Shared) (budget executed : ℕ) 
 -- A course of worlds has one for each list of free words and each number of instructions executed. The board shows the one behind its own
 -- instructions, whatever stands behind the free words that were used; the sink has taken the transcript of that world, the devices have met what
 -- it has met, and the run ended so, or not yet.
-pub record HasRun {B : Type 0} (account : B → Account) (image : List ℕ) (course : List ℕ → ℕ → World Fiber Shared) (budget : ℕ) (old : Outside B) (new : OverSink B) (end : Option RunEnd) : Type 0 where
+pub record HasRun {B : Type 0} (account : B → Account) (image : List ℕ) (course : List ℕ → ℕ → World Fiber Shared)
+    (budget : ℕ) (old : Outside B) (new : OverSink B) (end : Option RunEnd) : Type 0 where
   pub used : List ℕ
   pub moves : List Move
   pub is_executed : (rest : List ℕ) → IsExecuted (course (used ++ rest)) budget new.board.instructions
-  pub shows : (rest : List ℕ) → Represents image (state_of new.board.engine) (course (used ++ rest) new.board.instructions)
+  pub shows : (rest : List ℕ)
+      → Represents image (state_of new.board.engine) (course (used ++ rest) new.board.instructions)
   pub met : (rest : List ℕ) → HasMet moves (course (used ++ rest) new.board.instructions).board
   pub ended : (rest : List ℕ) → (course (used ++ rest) new.board.instructions).board.end ≡ end
-  pub written : (rest : List ℕ) → Took old.taken new.taken (transcript_of (course (used ++ rest) new.board.instructions).board)
+  pub written : (rest : List ℕ)
+      → Took old.taken new.taken (transcript_of (course (used ++ rest) new.board.instructions).board)
   pub devices : DevicesAfter account moves old.places new.board.plugs.places
 
 -- The sink stopped a run along such a course: one cut of what it meets within the budget is where the sink and the devices stand.
-pub record IsCut {B : Type 0} (account : B → Account) (course : List ℕ → ℕ → World Fiber Shared) (budget : ℕ) (old new : Outside B) : Type 0 where
+pub record IsCut {B : Type 0} (account : B → Account) (course : List ℕ → ℕ → World Fiber Shared) (budget : ℕ)
+    (old new : Outside B) : Type 0 where
   pub free : List ℕ
   pub executed : ℕ
   pub moves : List Move
   pub is_executed : IsExecuted (course free) budget executed
   pub met : HasMet moves (course free executed).board
-  pub stopped : (let b : Board = (course free executed).board in Stopped account [] moves (closing_line b.clock b.end) old.taken new.taken old.places new.places)
+  pub stopped : (let b : Board = (course free executed).board in
+      Stopped account [] moves (closing_line b.clock b.end) old.taken new.taken old.places new.places)
 
 -- the answer that tells how a run ended by itself, or that its budget ended first
 abbrev pub told : Option Stop → End
@@ -80,7 +86,8 @@ answer_of (Err why) end = SinkFault
 -- The closing line of a board was put, and the answer is this.
 abbrev pub Finishes : {B : Type 0} → OverSink B → OverSink B → End → Type 0
 Finishes old new answer = (let e : Engine = old.board.engine in
-    (put : Result (Unit {0}) PutFailed) × Puts old.taken new.taken old.faults new.faults (closing_line e.clock (option_map end_of e.end)) put × (answer ≡ answer_of put e.end))
+    (put : Result (Unit {0}) PutFailed) × Puts old.taken new.taken old.faults new.faults
+    (closing_line e.clock (option_map end_of e.end)) put × (answer ≡ answer_of put e.end))
 
 -- How a run ended that its sink didn't stop; nothing where its budget ended first.
 abbrev pub end_told : End → Option RunEnd
@@ -92,6 +99,8 @@ end_told Budget = None
 end_told SinkFault = None
 
 -- What a call that ran a board along a course answered: that the sink stopped it, where the count of its faults rose, or how the run ended.
-abbrev pub Ran : {B : Type 0} → (B → Account) → List ℕ → (List ℕ → ℕ → World Fiber Shared) → ℕ → Outside B → OverSink B → End → Type 0
-Ran account image course budget old new SinkFault = IsCut account course budget old (around new) × Rose old.faults new.faults
+abbrev pub Ran : {B : Type 0} → (B → Account) → List ℕ → (List ℕ → ℕ → World Fiber Shared) → ℕ → Outside B → OverSink B
+    → End → Type 0
+Ran account image course budget old new SinkFault =
+    IsCut account course budget old (around new) × Rose old.faults new.faults
 Ran account image course budget old new answer = HasRun account image course budget old new (end_told answer)

@@ -11,8 +11,11 @@ use Rattle.board_run.specs.View.{state_of, end_of}
 
 -- The board does the turn of the running fiber, or the turn ends the run so and the board has done nothing.
 abbrev pub IsServed : (List ℕ → Fiber → Shared → Turn Fiber Shared) → Served → Engine → Engine → Type 0
-IsServed turn (Goes output) old new = (image : List ℕ) → Acts image (turn image) (moves_of old.runtime.machine.memory.flash old.clock output) (state_of old) (state_of new)
-IsServed turn (Stops stop) old new = (new ≡ old) × ((image : List ℕ) → StopsAt image (turn image) (end_of stop) (state_of old))
+IsServed turn (Goes output) old new =
+    (image : List ℕ)
+    → Acts image (turn image) (moves_of old.runtime.machine.memory.flash old.clock output) (state_of old) (state_of new)
+IsServed turn (Stops stop) old new =
+    (new ≡ old) × ((image : List ℕ) → StopsAt image (turn image) (end_of stop) (state_of old))
 
 -- No instruction changes the clock, the script or the end, and what is counted grows by little.
 pub record Keeps (old new : Engine) : Type 0 where

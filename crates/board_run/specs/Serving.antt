@@ -13,8 +13,11 @@ use Rattle.board_run.specs.Represents.{BoardState, Represents, behind}
 use Rattle.board_outside.specs.Moves.{Move, Meets}
 
 -- The world behind a turn of the running fiber, t, which the world has as its first activity, marked so.
-abbrev pub turned : List ℕ → (Fiber → Shared → Turn Fiber Shared) → BoardState → Turning → Bool → World Fiber Shared → World Fiber Shared
-turned image turn b t mark w = acted (fibers image) (acting (fiber_on b.runtime.machine) t mark) (behind image b) w (turn (fiber_on b.runtime.machine) w.shared)
+abbrev pub turned : List ℕ → (Fiber → Shared → Turn Fiber Shared) → BoardState → Turning → Bool → World Fiber Shared
+    → World Fiber Shared
+turned image turn b t mark w =
+    acted (fibers image) (acting (fiber_on b.runtime.machine) t mark) (behind image b) w
+    (turn (fiber_on b.runtime.machine) w.shared)
 
 -- The new board shows what the running fiber's turn makes of each world that the old one shows. The run isn't over, these moves were met,
 -- and no free word was used.
@@ -22,9 +25,11 @@ abbrev pub Acts : List ℕ → (Fiber → Shared → Turn Fiber Shared) → List
 Acts image turn moves old new =
     (t : Turning) → old.runtime.running ≡ Some t → (w : World Fiber Shared) (h : Represents image old w)
     → (let v = turned image turn old t h.mark w in
-    Represents image new v × (v.board.end ≡ w.board.end) × (v.shared.free ≡ w.shared.free) × Meets moves w.board v.board)
+    Represents image new v × (v.board.end ≡ w.board.end) × (v.shared.free ≡ w.shared.free)
+    × Meets moves w.board v.board)
 
 -- The running fiber's turn ends the run so, in each world that the board shows, and changes nothing else.
 abbrev pub StopsAt : List ℕ → (Fiber → Shared → Turn Fiber Shared) → End → BoardState → Type 0
 StopsAt image turn end b =
-    (t : Turning) → b.runtime.running ≡ Some t → (w : World Fiber Shared) (h : Represents image b w) → turned image turn b t h.mark w ≡ stops end w
+    (t : Turning) → b.runtime.running ≡ Some t → (w : World Fiber Shared) (h : Represents image b w)
+    → turned image turn b t h.mark w ≡ stops end w

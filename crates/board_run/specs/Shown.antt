@@ -45,7 +45,8 @@ unbegun image base hs p = map (begun_as image base p.event hs) p.left
 abbrev pub standing : List ℕ → List Hearing → List ℕ → List Raiser → List PendingDispatch → List (Activity Fiber)
 standing image hs stack rs [] = []
 standing image hs stack [] (p ∷ ps) = unbegun image (base_of image) hs p
-standing image hs stack (r ∷ rs) (p ∷ ps) = unbegun image r.registers.sp hs p ++ (of_raiser stack r ∷ standing image hs stack rs ps)
+standing image hs stack (r ∷ rs) (p ∷ ps) =
+    unbegun image r.registers.sp hs p ++ (of_raiser stack r ∷ standing image hs stack rs ps)
 
 -- what is kept of a handler that begins
 abbrev pub handler_turning : Event → ℕ → Turning

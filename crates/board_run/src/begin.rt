@@ -22,7 +22,8 @@ use message_bus::Bus;
 fn begin_handler(runtime: &mut Runtime, bus: &Bus, event: Event, at: u32)
     requires idle { runtime.old.running ≡ None }
     requires stands { at < length bus.now.listeners }
-    ensures { runtime.new ≡ started (handler_of at (hearings bus.now.listeners)) (base_for runtime.old.machine.memory.flash runtime.old.raisers) (handler_turning event at) runtime.old }
+    ensures { runtime.new ≡ started (handler_of at (hearings bus.now.listeners))
+        (base_for runtime.old.machine.memory.flash runtime.old.raisers) (handler_turning event at) runtime.old }
 {
     match bus.listener(at as usize) {
         Some(listener) => {
@@ -40,7 +41,8 @@ impl Engine {
         requires idle { self.old.runtime.running ≡ None }
         requires shown { IsShown (state_of self.old) }
         ensures comes { (image : List ℕ) → Comes image 0 [] (state_of self.old) (state_of self.new) }
-        ensures stays { self.new ≡ record self.old { runtime = self.new.runtime; switch = self.new.switch; places = self.new.places } }
+        ensures stays { self.new
+            ≡ record self.old { runtime = self.new.runtime; switch = self.new.switch; places = self.new.places } }
         ensures runs { OnTrue result (IsSome self.new.runtime.running) }
         ensures same { OnFalse result (self.new ≡ self.old) }
         ensures nobody { OnFalse result (IsEmpty (state_of self.old)) }

@@ -24,7 +24,8 @@ use fork_on_block::fork;
 fn depth(runtime: &Runtime) -> u32
     requires inside { IsInside runtime.now.machine.registers.sp runtime.now.machine.memory.base }
     requires whole { length runtime.now.machine.memory.stack ≡ 1024 }
-    ensures words { result ≡ length (words_in runtime.now.machine.memory.stack runtime.now.machine.registers.sp runtime.now.machine.memory.base) }
+    ensures words { result ≡ length
+        (words_in runtime.now.machine.memory.stack runtime.now.machine.registers.sp runtime.now.machine.memory.base) }
     ensures most { result ≤ 1024 }
 {
     (runtime.base() - runtime.registers().sp) / 4
@@ -47,7 +48,8 @@ impl Engine {
         requires early { self.old.clock ≤ end_limit }
         requires whole { length self.old.runtime.machine.memory.stack ≡ 1024 }
         requires words { self.old.counts.words + 1024 < 2 ^ 64 }
-        ensures rests { (key : ℕ) (t : Turning) → self.old.runtime.running ≡ Some t → t.key ≡ Some key → Rests key t why self.old self.new }
+        ensures rests { (key : ℕ) (t : Turning) → self.old.runtime.running ≡ Some t → t.key ≡ Some key
+            → Rests key t why self.old self.new }
         ensures few { self.new.counts.words ≤ self.old.counts.words + 1024 }
         ensures copied { self.new.switch ≡ copied_behind (depth self.old.runtime.machine) self.old }
         ensures stays { self.new ≡ record self.old { runtime = self.new.runtime; switch = self.new.switch; counts = record self.old.counts { words = self.new.counts.words } } }
@@ -105,7 +107,8 @@ impl Engine {
     /// Services 5 and 22: a listener with this mode is registered.
     pub fn listen(&mut self, mode: i32, at: u32) -> Served
         requires { IsInside self.old.runtime.machine.registers.sp self.old.runtime.machine.memory.base }
-        ensures served { IsServed (λ image f s. with_code at (word_argument f 2) (Listens (asked_listener f mode) f s)) result self.old self.new }
+        ensures served { IsServed (λ image f s. with_code at (word_argument f 2) (Listens (asked_listener f mode) f s))
+            result self.old self.new }
         ensures keeps { Keeps self.old self.new }
     {
         let handler = word(&self.runtime, 2);

@@ -24,7 +24,8 @@ use message_bus::Bus;
 /// The running fiber ends: its record, where it has one, is free.
 fn end(runtime: &mut Runtime)
     requires { IsSome runtime.old.running }
-    ensures { (t : Turning) → runtime.old.running ≡ Some t → MatchOption t.key (runtime.new ≡ record runtime.old { running = None }) (λ key. Ended key runtime.old runtime.new) }
+    ensures { (t : Turning) → runtime.old.running ≡ Some t → MatchOption t.key
+        (runtime.new ≡ record runtime.old { running = None }) (λ key. Ended key runtime.old runtime.new) }
 {
     if runtime.running().is_none() {
         leave(runtime);
@@ -37,7 +38,8 @@ fn end(runtime: &mut Runtime)
 fn begin_again(runtime: &mut Runtime, bus: &Bus, at: u32, event: Event)
     requires runs { IsSome runtime.old.running }
     requires stands { at < length bus.now.listeners }
-    ensures { (t : Turning) → runtime.old.running ≡ Some t → runtime.new ≡ restarted (handler_of at (hearings bus.now.listeners)) (record t { value = event.value }) runtime.old }
+    ensures { (t : Turning) → runtime.old.running ≡ Some t → runtime.new
+        ≡ restarted (handler_of at (hearings bus.now.listeners)) (record t { value = event.value }) runtime.old }
 {
     match bus.listener(at as usize) {
         Some(listener) => again(runtime, listener.handler, event),

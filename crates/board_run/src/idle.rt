@@ -74,7 +74,8 @@ impl Engine {
         requires going { self.old.end ≡ None }
         ensures comes { OnTrue result ((image : List ℕ) → Comes image 0 [] (state_of self.old) (state_of self.new)) }
         ensures none { OnFalse result ((self.new ≡ self.old) × (self.old.bus.queue ≡ [])) }
-        ensures stays { self.new ≡ record self.old { runtime = self.new.runtime; bus = self.new.bus; places = self.new.places } }
+        ensures stays { self.new
+            ≡ record self.old { runtime = self.new.runtime; bus = self.new.bus; places = self.new.places } }
         ensures fewer { OnTrue result (moves_left (state_of self.new) < moves_left (state_of self.old)) }
     {
         match self.bus.next() {
@@ -197,10 +198,12 @@ impl Engine {
         requires acts { All (λ e. IsSoundAct (world_act e.act)) self.old.script.entries }
         requires within { self.old.next ≤ length self.old.script.entries }
         ensures arrived { Arrived D.account self.old self.new plugs.old plugs.new }
-        ensures stays { self.new ≡ record self.old { bus = self.new.bus; buttons = self.new.buttons; next = self.new.next } }
+        ensures stays { self.new
+            ≡ record self.old { bus = self.new.bus; buttons = self.new.buttons; next = self.new.next } }
         ensures later { (self.old.next ≤ self.new.next) × (self.new.next ≤ length self.old.script.entries) }
         ensures grows { length self.new.bus.queue + 2 * self.old.next ≤ length self.old.bus.queue + 2 * self.new.next }
-        ensures applies { next_entry (world_entries (drop self.old.next self.old.script.entries)) ≡ Some self.old.clock → self.old.next < self.new.next }
+        ensures applies { next_entry (world_entries (drop self.old.next self.old.script.entries)) ≡ Some self.old.clock
+            → self.old.next < self.new.next }
     {
         let count = self.script.entries.len();
         while self.next < count {

@@ -35,7 +35,9 @@ impl Engine {
         requires spawned { self.old.counts.spawned + 1 < 2 ^ 64 }
         requires blocked { self.old.counts.blocked + 1 < 2 ^ 64 }
         requires words { self.old.counts.words + 1024 < 2 ^ 64 }
-        ensures comes { (image : List ℕ) → Comes image 1 (moves_of self.old.runtime.machine.memory.flash self.old.clock result) (state_of self.old) (state_of self.new) }
+        ensures comes { (image : List ℕ)
+            → Comes image 1 (moves_of self.old.runtime.machine.memory.flash self.old.clock result) (state_of self.old)
+            (state_of self.new) }
         ensures steps { Steps self.old self.new }
     {
         let at = self.runtime.registers().pc;

@@ -67,8 +67,10 @@ fn tell_behind<K: Sink, D: Device>(
 ) -> Result<(), PutFailed>
     requires size { length engine.old.runtime.machine.memory.flash ≤ flash_end }
     requires bytes { All (λ b. b < 256) engine.old.runtime.machine.memory.flash }
-    ensures puts { PutsTo K.taken K.faults out.old out.new (led_lines lead.now (seen_of (moves_of engine.old.runtime.machine.memory.flash now output))) result }
-    ensures sends { OnOk result (PortsMeet D.account (moves_of engine.old.runtime.machine.memory.flash now output) plugs.old plugs.new) }
+    ensures puts { PutsTo K.taken K.faults out.old out.new
+        (led_lines lead.now (seen_of (moves_of engine.old.runtime.machine.memory.flash now output))) result }
+    ensures sends { OnOk result
+        (PortsMeet D.account (moves_of engine.old.runtime.machine.memory.flash now output) plugs.old plugs.new) }
     ensures stays { OnErr result (plugs.new ≡ plugs.old) }
     ensures same { engine.new ≡ engine.old }
 {
@@ -90,8 +92,10 @@ fn tell_led<K: Sink, D: Device>(
 ) -> Result<(), PutFailed>
     requires size { length engine.old.runtime.machine.memory.flash ≤ flash_end }
     requires bytes { All (λ b. b < 256) engine.old.runtime.machine.memory.flash }
-    ensures puts { PutsTo K.taken K.faults out.old out.new (led_lines lead.now (seen_of (moves_of engine.old.runtime.machine.memory.flash now output))) result }
-    ensures sends { OnOk result (PortsMeet D.account (moves_of engine.old.runtime.machine.memory.flash now output) plugs.old plugs.new) }
+    ensures puts { PutsTo K.taken K.faults out.old out.new
+        (led_lines lead.now (seen_of (moves_of engine.old.runtime.machine.memory.flash now output))) result }
+    ensures sends { OnOk result
+        (PortsMeet D.account (moves_of engine.old.runtime.machine.memory.flash now output) plugs.old plugs.new) }
     ensures stays { OnErr result (plugs.new ≡ plugs.old) }
     ensures seen { OnErr result (IsSeen engine.old.runtime.machine.memory.flash now output) }
     ensures same { engine.new ≡ engine.old }
@@ -129,7 +133,8 @@ impl Engine {
     fn run_next(&mut self) -> bool
         requires shown { IsShown (state_of self.old) }
         ensures comes { (image : List ℕ) → Comes image 0 [] (state_of self.old) (state_of self.new) }
-        ensures stays { self.new ≡ record self.old { runtime = self.new.runtime; switch = self.new.switch; places = self.new.places } }
+        ensures stays { self.new
+            ≡ record self.old { runtime = self.new.runtime; switch = self.new.switch; places = self.new.places } }
         ensures runs { OnTrue result (IsSome self.new.runtime.running) }
         ensures same { OnFalse result (self.new ≡ self.old) }
         ensures nobody { OnFalse result (IsEmpty (state_of self.old)) }
@@ -145,7 +150,8 @@ impl Engine {
         requires shown { IsShown (state_of self.old) }
         ensures comes { (image : List ℕ) → Comes image 0 [] (state_of self.old) (state_of self.new) }
         ensures stays { self.new ≡ record self.old { runtime = self.new.runtime; switch = self.new.switch; bus = self.new.bus; places = self.new.places } }
-        ensures rests { self.new.end ≡ None → IsSome self.new.runtime.running ⊎ (IsEmpty (state_of self.new) × (self.new.bus.queue ≡ [])) }
+        ensures rests { self.new.end ≡ None
+            → IsSome self.new.runtime.running ⊎ (IsEmpty (state_of self.new) × (self.new.bus.queue ≡ [])) }
     {
         while self.end.is_none() && !self.runtime.is_running() {
             if self.begin() {
@@ -177,12 +183,14 @@ impl<D: Device> Board<D> {
         requires runs { IsSome self.old.engine.runtime.running }
         requires going { self.old.engine.end ≡ None }
         requires early { self.old.instructions < 2 ^ 50 }
-        ensures goes { OnOk result (Proceeds D.account lead.now 1 (over_sink K.taken K.faults self.old out.old) (over_sink K.taken K.faults self.new out.new)) }
+        ensures goes { OnOk result (Proceeds D.account lead.now 1 (over_sink K.taken K.faults self.old out.old)
+            (over_sink K.taken K.faults self.new out.new)) }
         ensures whole { OnOk result (IsWhole self.new.engine self.new.instructions) }
         ensures stayed { OnOk result (IsStayed self.new.engine) }
         ensures stands { OnOk result (Stands self.old self.new) }
         ensures counted { self.new.instructions ≡ self.old.instructions + 1 }
-        ensures cut { OnErr result (Fails D.account (of_moment lead.now) 1 (over_sink K.taken K.faults self.old out.old) (over_sink K.taken K.faults self.new out.new)) }
+        ensures cut { OnErr result (Fails D.account (of_moment lead.now) 1 (over_sink K.taken K.faults self.old out.old)
+            (over_sink K.taken K.faults self.new out.new)) }
         ensures later { K.faults out.old ≤ K.faults out.new }
         ensures failed { OnErr result (Rose (K.faults out.old) (K.faults out.new)) }
     {
@@ -204,10 +212,12 @@ impl<D: Device> Board<D> {
         requires whole { IsWhole self.old.engine self.old.instructions }
         requires stayed { IsStayed self.old.engine }
         requires early { self.old.instructions + most < 2 ^ 50 }
-        ensures goes { OnOk result ((count : ℕ) × HasProceeded D.account lead.now count most (over_sink K.taken K.faults self.old out.old) (over_sink K.taken K.faults self.new out.new)) }
+        ensures goes { OnOk result ((count : ℕ) × HasProceeded D.account lead.now count most
+            (over_sink K.taken K.faults self.old out.old) (over_sink K.taken K.faults self.new out.new)) }
         ensures whole { OnOk result (IsWhole self.new.engine self.new.instructions) }
         ensures stayed { OnOk result (IsStayed self.new.engine) }
-        ensures cut { OnErr result (Fails D.account (of_moment lead.now) most (over_sink K.taken K.faults self.old out.old) (over_sink K.taken K.faults self.new out.new)) }
+        ensures cut { OnErr result (Fails D.account (of_moment lead.now) most
+            (over_sink K.taken K.faults self.old out.old) (over_sink K.taken K.faults self.new out.new)) }
         ensures later { K.faults out.old ≤ K.faults out.new }
         ensures failed { OnErr result (Rose (K.faults out.old) (K.faults out.new)) }
     {
@@ -233,8 +243,11 @@ impl<D: Device> Board<D> {
         requires resting { IsResting self.old.engine }
         requires due { IsDueAt moment self.old.kept self.old.engine }
         requires early { self.old.instructions + most < 2 ^ 50 }
-        ensures goes { OnOk result ((count : ℕ) × HasGone D.account lead.now self.old.sent moment count (over_sink K.taken K.faults self.old out.old) (over_sink K.taken K.faults self.new out.new) [] × IsPassed moment count most self.new) }
-        ensures cut { OnErr result (IsCutShort D.account lead.now moment most (over_sink K.taken K.faults self.old out.old) (over_sink K.taken K.faults self.new out.new)) }
+        ensures goes { OnOk result ((count : ℕ) × HasGone D.account lead.now self.old.sent moment count
+            (over_sink K.taken K.faults self.old out.old) (over_sink K.taken K.faults self.new out.new) []
+            × IsPassed moment count most self.new) }
+        ensures cut { OnErr result (IsCutShort D.account lead.now moment most
+            (over_sink K.taken K.faults self.old out.old) (over_sink K.taken K.faults self.new out.new)) }
         ensures later { K.faults out.old ≤ K.faults out.new }
         ensures failed { OnErr result (Rose (K.faults out.old) (K.faults out.new)) }
     {
@@ -271,8 +284,11 @@ impl<D: Device> Board<D> {
         requires whole { IsWhole self.old.engine self.old.instructions }
         requires may { MayGo moment most self.old.kept self.old.engine }
         requires early { self.old.instructions + most < 2 ^ 50 }
-        ensures goes { OnOk result ((count : ℕ) × HasGone D.account lead.now self.old.sent moment count (over_sink K.taken K.faults self.old out.old) (over_sink K.taken K.faults self.new out.new) [] × IsPassed moment count most self.new) }
-        ensures cut { OnErr result (IsCutShort D.account lead.now moment most (over_sink K.taken K.faults self.old out.old) (over_sink K.taken K.faults self.new out.new)) }
+        ensures goes { OnOk result ((count : ℕ) × HasGone D.account lead.now self.old.sent moment count
+            (over_sink K.taken K.faults self.old out.old) (over_sink K.taken K.faults self.new out.new) []
+            × IsPassed moment count most self.new) }
+        ensures cut { OnErr result (IsCutShort D.account lead.now moment most
+            (over_sink K.taken K.faults self.old out.old) (over_sink K.taken K.faults self.new out.new)) }
         ensures later { K.faults out.old ≤ K.faults out.new }
         ensures failed { OnErr result (Rose (K.faults out.old) (K.faults out.new)) }
     {
@@ -291,7 +307,8 @@ impl<D: Device> Board<D> {
     /// Puts the closing line of a run that ended so, behind a lead.
     fn put_end<K: Sink>(&self, stop: Stop, lead: &[u8], out: &mut K) -> End
         ensures { (put : Result (Unit {0}) PutFailedState)
-            × PutsTo K.taken K.faults out.old out.new (lead.now ++ closing_line self.now.engine.clock (Some (end_of stop))) put
+            × PutsTo K.taken K.faults out.old out.new
+            (lead.now ++ closing_line self.now.engine.clock (Some (end_of stop))) put
             × (result ≡ answer_of put (Some stop)) }
     {
         match out.put(lead) {
@@ -335,7 +352,8 @@ impl<D: Device> Board<D> {
         requires may { MayGo moment budget self.old.kept self.old.engine }
         requires early { self.old.instructions < 2 ^ 49 }
         requires most { budget ≤ 2147483648 }
-        ensures went { Went D.account lead.now moment budget (over_sink K.taken K.faults self.old out.old) (over_sink K.taken K.faults self.new out.new) result }
+        ensures went { Went D.account lead.now moment budget (over_sink K.taken K.faults self.old out.old)
+            (over_sink K.taken K.faults self.new out.new) result }
         ensures later { K.faults out.old ≤ K.faults out.new }
     {
         self.sent.clear();
@@ -358,7 +376,8 @@ impl<D: Device> Board<D> {
         requires may { MayGo moment budget self.old.kept self.old.engine }
         requires early { self.old.instructions < 2 ^ 49 }
         requires most { budget ≤ 2147483648 }
-        ensures went { Went D.account [] moment budget (over_sink K.taken K.faults self.old out.old) (over_sink K.taken K.faults self.new out.new) result }
+        ensures went { Went D.account [] moment budget (over_sink K.taken K.faults self.old out.old)
+            (over_sink K.taken K.faults self.new out.new) result }
         ensures later { K.faults out.old ≤ K.faults out.new }
     {
         self.go_led(moment, budget, b"", out)

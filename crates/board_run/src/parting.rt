@@ -33,7 +33,8 @@ impl<D: Device> Board<D> {
         requires going { self.old.engine.end ≡ None }
         requires early { self.old.instructions < 2 ^ 49 }
         requires some { 1 ≤ instructions }
-        ensures parted { Parted D.account instructions (over_sink K.taken K.faults self.old out.old) (over_sink K.taken K.faults self.new out.new) result }
+        ensures parted { Parted D.account instructions (over_sink K.taken K.faults self.old out.old)
+            (over_sink K.taken K.faults self.new out.new) result }
         ensures whole { IfNone result (IsWhole self.new.engine self.new.instructions) }
         ensures settled { IfNone result (IsSettled self.new.engine) }
         ensures later { K.faults out.old ≤ K.faults out.new }
@@ -60,7 +61,8 @@ impl<D: Device> Board<D> {
         requires sound { IsSoundAct (world_act act) }
         requires stays_plugged { MayArrive (world_act act) }
         ensures arrives { Arrives (world_act act) (state_of self.old.engine) (state_of self.new.engine) }
-        ensures stays { self.new.engine ≡ record self.old.engine { bus = self.new.engine.bus; buttons = self.new.engine.buttons } }
+        ensures stays { self.new.engine
+            ≡ record self.old.engine { bus = self.new.engine.bus; buttons = self.new.engine.buttons } }
         ensures ports { PortsMeet D.account [] self.old.plugs self.new.plugs }
         ensures whole { IsWhole self.new.engine self.new.instructions }
         ensures settled { IsSettled self.new.engine }

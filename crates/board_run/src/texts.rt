@@ -55,7 +55,8 @@ pub fn flash_byte(runtime: &mut Runtime, at: u32) -> u8
 /// The length of the text at an address. None where no text stands there.
 pub fn text_length(runtime: &mut Runtime, at: u32) -> Option<u32>
     ensures within { IfSome result (λ length. at + 4 + length ≤ flash_end) }
-    ensures length { SomeIff result (is_text runtime.old.machine.memory.flash at ≡ true) (flash_word runtime.old.machine.memory.flash at) }
+    ensures length { SomeIff result (is_text runtime.old.machine.memory.flash at ≡ true)
+        (flash_word runtime.old.machine.memory.flash at) }
     ensures same { runtime.new ≡ runtime.old }
 {
     if at % 4 != 0 {

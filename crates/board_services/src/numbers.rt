@@ -54,7 +54,8 @@ pub const RAISE_NOW: u8 = 23;
 pub fn services_are_numbered()
     ensures fibers { END ∷ PANIC ∷ PAUSE ∷ WAIT ∷ SPAWN ∷ LISTEN ∷ RAISE ∷ [] ≡ 0 ∷ 1 ∷ 2 ∷ 3 ∷ 4 ∷ 5 ∷ 6 ∷ [] }
     ensures questions { TIME ∷ EVENT_VALUE ∷ BUTTON ∷ [] ≡ 7 ∷ 8 ∷ 9 ∷ [] }
-    ensures outputs { PLOT ∷ SHOW ∷ WRITE_NUMBER ∷ WRITE_TEXT ∷ WRITE_PIN ∷ SEND ∷ [] ≡ 10 ∷ 11 ∷ 12 ∷ 13 ∷ 14 ∷ 15 ∷ [] }
+    ensures outputs { PLOT ∷ SHOW ∷ WRITE_NUMBER ∷ WRITE_TEXT ∷ WRITE_PIN ∷ SEND ∷ []
+        ≡ 10 ∷ 11 ∷ 12 ∷ 13 ∷ 14 ∷ 15 ∷ [] }
     ensures glyphs { TEXT_GLYPH ∷ NUMBER_GLYPH ∷ [] ≡ 16 ∷ 17 ∷ [] }
     ensures words { ALLOCATE ∷ PUSH ∷ DIVIDE ∷ REMAINDER ∷ [] ≡ 18 ∷ 19 ∷ 20 ∷ 21 ∷ [] }
     ensures further { LISTEN_IN_MODE ∷ RAISE_NOW ∷ [] ≡ 22 ∷ 23 ∷ [] }

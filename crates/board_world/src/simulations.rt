@@ -32,21 +32,27 @@ pub trait Tied {
 
 /// A simulation between two kinds of activity is one between their worlds, whatever arrives between two steps.
 pub fn simulations_lift<T: Tied>()
-    ensures { (K : Kind T.Upper T.UpperShared) (L : Kind T.Lower T.LowerShared) (bound : ℕ) (w : World T.Upper T.UpperShared) (v : World T.Lower T.LowerShared)
-        → 0 < bound → Simulation K L (ties T.shared T.active T.code) one (always bound) → Alike (ties T.shared T.active T.code) w v
-        → (arrivals : List Arrival) → Rises 0 arrivals → (m : ℕ) → Keeps bound (board_with K w) (board_with L v) arrivals m }
+    ensures { (K : Kind T.Upper T.UpperShared) (L : Kind T.Lower T.LowerShared) (bound : ℕ)
+        (w : World T.Upper T.UpperShared) (v : World T.Lower T.LowerShared)
+        → 0 < bound → Simulation K L (ties T.shared T.active T.code) one (always bound)
+        → Alike (ties T.shared T.active T.code) w v
+        → (arrivals : List Arrival) → Rises 0 arrivals → (m : ℕ)
+        → Keeps bound (board_with K w) (board_with L v) arrivals m }
 {}
 
 /// A run that ends within s steps has ended below within `bound * s`.
 pub fn simulated_runs_end_in_time<T: Tied>()
-    ensures { (K : Kind T.Upper T.UpperShared) (L : Kind T.Lower T.LowerShared) (bound : ℕ) (w : World T.Upper T.UpperShared) (v : World T.Lower T.LowerShared)
-        → 0 < bound → Simulation K L (ties T.shared T.active T.code) one (always bound) → Alike (ties T.shared T.active T.code) w v
+    ensures { (K : Kind T.Upper T.UpperShared) (L : Kind T.Lower T.LowerShared) (bound : ℕ)
+        (w : World T.Upper T.UpperShared) (v : World T.Lower T.LowerShared)
+        → 0 < bound → Simulation K L (ties T.shared T.active T.code) one (always bound)
+        → Alike (ties T.shared T.active T.code) w v
         → (s : ℕ) → over (run K s w).board ≡ true → over (run L (bound * s) v).board ≡ true }
 {}
 
 /// The same where acts come between two steps, each at its own place in either run.
 pub fn simulated_runs_end_in_time_with_arrivals<A, S, C, D>()
-    ensures { (K : Kind A S) (L : Kind C D) (bound : ℕ) (w : World A S) (v : World C D) (arrivals : List Arrival) (s : ℕ) (kept : Keeps bound (board_with K w) (board_with L v) arrivals (bound * s))
+    ensures { (K : Kind A S) (L : Kind C D) (bound : ℕ) (w : World A S) (v : World C D) (arrivals : List Arrival)
+        (s : ℕ) (kept : Keeps bound (board_with K w) (board_with L v) arrivals (bound * s))
         → over (run_with K kept.places s w).board ≡ true → over (run_with L arrivals (bound * s) v).board ≡ true }
 {}
 
@@ -82,25 +88,34 @@ pub trait Chained {
 /// Two simulations behind one another are one, where the weight of the middle kind's steps is the bound of the lower simulation.
 pub fn simulations_compose<T: Chained>()
     ensures { (K : Kind T.Upper T.Shared) (L : Kind T.Middle T.MiddleShared) (M : Kind T.Lower T.LowerShared)
-        (bound : T.Upper → T.Shared → ℕ) (weight : T.Middle → T.MiddleShared → ℕ) (lower_weight : T.Lower → T.LowerShared → ℕ)
-        → Simulation K L (seen T.down T.fine T.active T.code) weight bound → Simulation L M (ties T.lower_shared T.lower_active T.lower_code) lower_weight weight
-        → Simulation K M (joined_seen T.down T.fine T.active T.code (ties T.lower_shared T.lower_active T.lower_code)) lower_weight bound }
+        (bound : T.Upper → T.Shared → ℕ) (weight : T.Middle → T.MiddleShared → ℕ)
+        (lower_weight : T.Lower → T.LowerShared → ℕ)
+        → Simulation K L (seen T.down T.fine T.active T.code) weight bound
+        → Simulation L M (ties T.lower_shared T.lower_active T.lower_code) lower_weight weight
+        → Simulation K M (joined_seen T.down T.fine T.active T.code (ties T.lower_shared T.lower_active T.lower_code))
+        lower_weight bound }
 {}
 
 /// Simulations that owe nothing where the upper kind makes a fault compose in the same way.
 pub fn partial_simulations_compose<T: Chained>()
     ensures { (K : Kind T.Upper T.Shared) (L : Kind T.Middle T.MiddleShared) (M : Kind T.Lower T.LowerShared)
-        (bound : T.Upper → T.Shared → ℕ) (weight : T.Middle → T.MiddleShared → ℕ) (lower_weight : T.Lower → T.LowerShared → ℕ)
-        → PartialSimulation K L (seen T.down T.fine T.active T.code) weight bound → PartialSimulation L M (ties T.lower_shared T.lower_active T.lower_code) lower_weight weight
-        → PartialSimulation K M (joined_seen T.down T.fine T.active T.code (ties T.lower_shared T.lower_active T.lower_code)) lower_weight bound }
+        (bound : T.Upper → T.Shared → ℕ) (weight : T.Middle → T.MiddleShared → ℕ)
+        (lower_weight : T.Lower → T.LowerShared → ℕ)
+        → PartialSimulation K L (seen T.down T.fine T.active T.code) weight bound
+        → PartialSimulation L M (ties T.lower_shared T.lower_active T.lower_code) lower_weight weight
+        → PartialSimulation K M (joined_seen T.down T.fine T.active T.code
+        (ties T.lower_shared T.lower_active T.lower_code)) lower_weight bound }
 {}
 
 /// One whose lower activity may trail behind its turns stands behind one that doesn't.
 pub fn trailing_simulations_compose<T: Chained>()
     ensures { (K : Kind T.Upper T.Shared) (L : Kind T.Middle T.MiddleShared) (M : Kind T.Lower T.LowerShared)
-        (bound : T.Upper → T.Shared → ℕ) (weight : T.Middle → T.MiddleShared → ℕ) (lower_weight : T.Lower → T.LowerShared → ℕ) (r : ℕ)
-        → PartialSimulation K L (seen T.down T.fine T.active T.code) weight bound → PartialTrailingSimulation L M (ties T.lower_shared T.lower_active T.lower_code) lower_weight r weight
-        → PartialTrailingSimulation K M (joined_seen T.down T.fine T.active T.code (ties T.lower_shared T.lower_active T.lower_code)) lower_weight r bound }
+        (bound : T.Upper → T.Shared → ℕ) (weight : T.Middle → T.MiddleShared → ℕ)
+        (lower_weight : T.Lower → T.LowerShared → ℕ) (r : ℕ)
+        → PartialSimulation K L (seen T.down T.fine T.active T.code) weight bound
+        → PartialTrailingSimulation L M (ties T.lower_shared T.lower_active T.lower_code) lower_weight r weight
+        → PartialTrailingSimulation K M (joined_seen T.down T.fine T.active T.code
+        (ties T.lower_shared T.lower_active T.lower_code)) lower_weight r bound }
 {}
 
 /// What is typed of a kind of activity, and what ties it to another.
@@ -123,32 +138,44 @@ pub fn typed_runs_make_no_fault<T: Typed>()
 /// There a simulation that owes nothing at faults makes the lower kind implement the upper one.
 pub fn typed_simulations_implement<T: Typed>()
     ensures { (K : Kind T.Upper T.UpperShared) (L : Kind T.Lower T.LowerShared) (bound : ℕ)
-        → 0 < bound → Sound K (typing T.typed_shared T.typed T.typed_code) → PartialSimulation K L (ties T.shared T.active T.code) one (always bound)
-        → (main entry : ℕ) (shared : T.UpperShared) (below : T.LowerShared) → T.typed_code main → T.code main entry → T.typed_shared 0 shared → T.shared 0 shared below
+        → 0 < bound → Sound K (typing T.typed_shared T.typed T.typed_code)
+        → PartialSimulation K L (ties T.shared T.active T.code) one (always bound)
+        → (main entry : ℕ) (shared : T.UpperShared) (below : T.LowerShared) → T.typed_code main → T.code main entry
+        → T.typed_shared 0 shared → T.shared 0 shared below
         → Implements bound (boards_from K main shared) (boards_from L entry below) }
 {}
 
 /// So does one whose lower activity may trail behind its turns.
 pub fn typed_trailing_simulations_implement<T: Typed>()
     ensures { (K : Kind T.Upper T.UpperShared) (L : Kind T.Lower T.LowerShared) (r bound : ℕ)
-        → 0 < bound → Sound K (typing T.typed_shared T.typed T.typed_code) → PartialTrailingSimulation K L (ties T.shared T.active T.code) one r (always bound)
-        → (main entry : ℕ) (shared : T.UpperShared) (below : T.LowerShared) → T.typed_code main → T.code main entry → T.typed_shared 0 shared → T.shared 0 shared below
+        → 0 < bound → Sound K (typing T.typed_shared T.typed T.typed_code)
+        → PartialTrailingSimulation K L (ties T.shared T.active T.code) one r (always bound)
+        → (main entry : ℕ) (shared : T.UpperShared) (below : T.LowerShared) → T.typed_code main → T.code main entry
+        → T.typed_shared 0 shared → T.shared 0 shared below
         → Implements bound (boards_from K main shared) (boards_from L entry below) }
 {}
 
 /// A run that ends in s steps has ended in `bound * s` steps of one that implements it, where nothing arrives.
 pub fn implemented_runs_end_in_time<A, S, C, D>()
-    ensures { (K : Kind A S) (L : Kind C D) (bound main entry : ℕ) (shared : S) (below : D) → Implements bound (boards_from K main shared) (boards_from L entry below)
-        → (until : ℕ) (script : List Entry) (s : ℕ) → over (run K s (start K main shared until script)).board ≡ true → over (run L (bound * s) (start L entry below until script)).board ≡ true }
+    ensures { (K : Kind A S) (L : Kind C D) (bound main entry : ℕ) (shared : S) (below : D)
+        → Implements bound (boards_from K main shared) (boards_from L entry below)
+        → (until : ℕ) (script : List Entry) (s : ℕ) → over (run K s (start K main shared until script)).board ≡ true
+        → over (run L (bound * s) (start L entry below until script)).board ≡ true }
 {}
 
 /// A simulation within some bound is one within a greater bound, also one that owes nothing at faults. The bound need be
 /// greater only where the activities are tied, and for the latter only where the upper step is no fault.
 pub fn simulations_have_greater_bounds<T: Tied>()
-    ensures whole { (K : Kind T.Upper T.UpperShared) (L : Kind T.Lower T.LowerShared) (weight : T.Lower → T.LowerShared → ℕ) (bound greater : T.Upper → T.UpperShared → ℕ)
-        → ((used : ℕ) (s : T.UpperShared) (t : T.LowerShared) (a : T.Upper) (c : T.Lower) → T.shared used s t → T.active s t a c → bound a s ≤ greater a s)
-        → Simulation K L (ties T.shared T.active T.code) weight bound → Simulation K L (ties T.shared T.active T.code) weight greater }
-    ensures partial { (K : Kind T.Upper T.UpperShared) (L : Kind T.Lower T.LowerShared) (weight : T.Lower → T.LowerShared → ℕ) (bound greater : T.Upper → T.UpperShared → ℕ)
-        → ((used : ℕ) (s : T.UpperShared) (t : T.LowerShared) (a : T.Upper) (c : T.Lower) → T.shared used s t → T.active s t a c → NoFault (K.step a s) → bound a s ≤ greater a s)
-        → PartialSimulation K L (ties T.shared T.active T.code) weight bound → PartialSimulation K L (ties T.shared T.active T.code) weight greater }
+    ensures whole { (K : Kind T.Upper T.UpperShared) (L : Kind T.Lower T.LowerShared)
+        (weight : T.Lower → T.LowerShared → ℕ) (bound greater : T.Upper → T.UpperShared → ℕ)
+        → ((used : ℕ) (s : T.UpperShared) (t : T.LowerShared) (a : T.Upper) (c : T.Lower) → T.shared used s t
+        → T.active s t a c → bound a s ≤ greater a s)
+        → Simulation K L (ties T.shared T.active T.code) weight bound
+        → Simulation K L (ties T.shared T.active T.code) weight greater }
+    ensures partial { (K : Kind T.Upper T.UpperShared) (L : Kind T.Lower T.LowerShared)
+        (weight : T.Lower → T.LowerShared → ℕ) (bound greater : T.Upper → T.UpperShared → ℕ)
+        → ((used : ℕ) (s : T.UpperShared) (t : T.LowerShared) (a : T.Upper) (c : T.Lower) → T.shared used s t
+        → T.active s t a c → NoFault (K.step a s) → bound a s ≤ greater a s)
+        → PartialSimulation K L (ties T.shared T.active T.code) weight bound
+        → PartialSimulation K L (ties T.shared T.active T.code) weight greater }
 {}

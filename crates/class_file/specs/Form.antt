@@ -25,7 +25,9 @@ loss_with None sender hearer = None
 
 -- a loss: `at` is a moment in milliseconds, up to the latest end; `from` and `to` are numbers of boards, up to the last one
 abbrev pub loss_of : Data → Option Loss
-loss_of d = only_if (has_members 3 d) (loss_with (whole end_limit (codes "at") d) (whole last_board (codes "from") d) (whole last_board (codes "to") d))
+loss_of d =
+    only_if (has_members 3 d)
+    (loss_with (whole end_limit (codes "at") d) (whole last_board (codes "from") d) (whole last_board (codes "to") d))
 
 abbrev pub class_with : Option ℕ → Option (List Names) → Option (List Loss) → Option ClassFile
 class_with (Some end) (Some boards) (Some lose) = Some (record { end = end; boards = boards; lose = lose })
@@ -35,4 +37,6 @@ class_with None boards lose = None
 
 -- the members are `end`, in milliseconds up to the latest end, `boards` and `lose`
 abbrev pub class_of : Data → Option ClassFile
-class_of d = only_if (has_members 3 d) (class_with (whole end_limit (codes "end") d) (list_of names_of (codes "boards") d) (list_of loss_of (codes "lose") d))
+class_of d =
+    only_if (has_members 3 d) (class_with (whole end_limit (codes "end") d) (list_of names_of (codes "boards") d)
+    (list_of loss_of (codes "lose") d))

@@ -28,4 +28,5 @@ read_of_boards n = record { end = 1000; boards = names_alike n; lose = record { 
 -- a member more than there should be
 abbrev pub with_more : Data
 with_more =
-    object (member (codes "boards") (array (alike 1)) (member (codes "end") (whole_number 5) (member (codes "lose") (array no_items) (member (codes "more") (whole_number 1) no_members))))
+    object (member (codes "boards") (array (alike 1)) (member (codes "end") (whole_number 5)
+    (member (codes "lose") (array no_items) (member (codes "more") (whole_number 1) no_members))))

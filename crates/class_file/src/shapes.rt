@@ -16,19 +16,24 @@ ghost use Rattle.class_file.specs.Rows.{alike, one_loss, class_of_boards, read_o
 
 /// Two texts are a board, three numbers within their limits a loss, and an end with lists of those a class.
 pub fn parts_are_classes()
-    ensures names { (program script : List ℕ) → names_of (names_tree program script) ≡ Some (record { program = program; script = script }) }
+    ensures names { (program script : List ℕ)
+        → names_of (names_tree program script) ≡ Some (record { program = program; script = script }) }
     ensures losses { (at sender hearer : ℕ) → at ≤ end_limit → sender ≤ last_board → hearer ≤ last_board →
         loss_of (loss_tree at sender hearer) ≡ Some (record { at = at; «from» = sender; to = hearer }) }
-    ensures classes { (end : ℕ) (boards lose : Items) (names : List Names) (losses : List Loss) → end ≤ end_limit → items_of names_of boards ≡ Some names → items_of loss_of lose ≡ Some losses →
+    ensures classes { (end : ℕ) (boards lose : Items) (names : List Names) (losses : List Loss) → end ≤ end_limit →
+        items_of names_of boards ≡ Some names → items_of loss_of lose ≡ Some losses →
         class_of (class_tree end boards lose) ≡ Some (record { end = end; boards = names; lose = losses }) }
 {}
 
 /// A board's object has exactly the members `program` and `script`, a loss's exactly `at`, `from` and `to`, and a class's
 /// exactly `end`, `boards` and `lose`.
 pub fn members_are_exact()
-    ensures names { (d : Data) (n : Names) → names_of d ≡ Some n → HasExactly (codes "program" ∷ codes "script" ∷ []) d }
-    ensures losses { (d : Data) (l : Loss) → loss_of d ≡ Some l → HasExactly (codes "at" ∷ codes "from" ∷ codes "to" ∷ []) d }
-    ensures classes { (d : Data) (c : ClassFile) → class_of d ≡ Some c → HasExactly (codes "end" ∷ codes "boards" ∷ codes "lose" ∷ []) d }
+    ensures names { (d : Data) (n : Names) → names_of d ≡ Some n
+        → HasExactly (codes "program" ∷ codes "script" ∷ []) d }
+    ensures losses { (d : Data) (l : Loss) → loss_of d ≡ Some l
+        → HasExactly (codes "at" ∷ codes "from" ∷ codes "to" ∷ []) d }
+    ensures classes { (d : Data) (c : ClassFile) → class_of d ≡ Some c
+        → HasExactly (codes "end" ∷ codes "boards" ∷ codes "lose" ∷ []) d }
 {}
 
 /// Small classes, and trees that are none.
@@ -39,7 +44,9 @@ pub fn worked_classes()
     ensures nine { judged_form (class_of (class_of_boards 9)) ≡ Err BadCount }
     ensures latest { judged_form (class_of (class_tree 1073741824 (alike 1) no_items)) ≡ Ok (record { end = 1073741824; boards = record { program = codes "p.ts"; script = codes "s.json" } ∷ []; lose = [] }) }
     ensures too_late { judged_form (class_of (class_tree 1073741825 (alike 1) no_items)) ≡ Err NotClass }
-    ensures no_such_board { judged_form (class_of (class_tree 1000 (alike 1) (item (loss_tree 0 0 8) no_items))) ≡ Err NotClass }
+    ensures no_such_board { judged_form (class_of (class_tree 1000 (alike 1) (item (loss_tree 0 0 8) no_items)))
+        ≡ Err NotClass }
     ensures more { judged_form (class_of with_more) ≡ Err NotClass }
-    ensures form_before_count { judged_form (class_of (class_tree 1000 no_items (item (loss_tree 0 8 0) no_items))) ≡ Err NotClass }
+    ensures form_before_count { judged_form (class_of (class_tree 1000 no_items (item (loss_tree 0 8 0) no_items)))
+        ≡ Err NotClass }
 {}

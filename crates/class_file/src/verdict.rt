@@ -26,8 +26,10 @@ pub fn read_class(alloc: Global, bytes: &[u8]) -> Result<ClassFile, ClassRefused
     ensures within_form { IfOk result IsWithinForm }
     ensures names { IfOk result (λ c. All AreTexts c.boards) }
     ensures not_json { result ≡ Err (ClassRefused.Class ClassCode.NotJson) → (tree : Data) → ¬ IsTree bytes.now tree }
-    ensures not_class { result ≡ Err (ClassRefused.Class ClassCode.NotClass) → Tells bytes.now (Err ClassCode.NotClass) }
-    ensures bad_count { result ≡ Err (ClassRefused.Class ClassCode.BadCount) → Tells bytes.now (Err ClassCode.BadCount) }
+    ensures not_class { result ≡ Err (ClassRefused.Class ClassCode.NotClass)
+        → Tells bytes.now (Err ClassCode.NotClass) }
+    ensures bad_count { result ≡ Err (ClassRefused.Class ClassCode.BadCount)
+        → Tells bytes.now (Err ClassCode.BadCount) }
     ensures end_differs { result ≢ Err (ClassRefused.Class ClassCode.EndDiffers) }
 {
     let tree = match tree_of(alloc, bytes) {

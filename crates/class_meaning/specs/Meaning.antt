@@ -14,11 +14,13 @@ pub record HasTextCutWithin {A S : Type 0} (C : Class A S) (bound budget : ℕ) 
   pub cut : IsRunUpTo C below here above
   pub at_most : here.steps ≤ budget
   pub at_least : (n : ℕ) → bound * n ≤ budget → n ≤ here.steps
-  pub is : text ≡ cut_text (length below) (world_of C.until here).board (boards_now C.until below) (boards_now C.until (below ++ here ∷ above))
+  pub is : text ≡ cut_text (length below) (world_of C.until here).board (boards_now C.until below)
+      (boards_now C.until (below ++ here ∷ above))
 
 module _ {A S C D : Type 0} where
   -- The text of these runs is the whole one of a class of the other boards, whose runs come to the same.
-  pub record MeansWhole (members : List (Member A S)) (L : Class C D) (budget : ℕ) (text : ByteList) (runs : List (Played C D)) : Type 0 where
+  pub record MeansWhole (members : List (Member A S)) (L : Class C D) (budget : ℕ) (text : ByteList)
+      (runs : List (Played C D)) : Type 0 where
     pub has : HasWholeText (class_of members L) budget text
     pub same : boards_now L.until has.runs ≡ boards_now L.until runs
 

@@ -30,7 +30,8 @@ latest_clock (p ∷ ps) = max p.board.engine.clock (latest_clock ps)
 
 -- the closing line of a class: by the script at its end, or quiet at a moment
 abbrev pub last_line_of : Bool → (end latest : ℕ) → ByteList
-last_line_of by_script end latest = if by_script then closing_line end (Some By_script) else closing_line latest (Some Quietly)
+last_line_of by_script end latest =
+    if by_script then closing_line end (Some By_script) else closing_line latest (Some Quietly)
 
 -- the line of a player that stands so
 abbrev pub end_line_of : Standing → (number : ℕ) → ByteList → ByteList

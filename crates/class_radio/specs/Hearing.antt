@@ -12,7 +12,8 @@ told_to lost t j i (numbers ∷ rest) = (if (i == j) || lost t i j then [] else 
 -- players, from board j on, once each has heard that, a moment later
 abbrev pub all_hearing : (lost : ℕ → ℕ → ℕ → Bool) → (t : ℕ) → List (List ℤ) → (j : ℕ) → List Player → List Player
 all_hearing lost t numbers j [] = []
-all_hearing lost t numbers j (p ∷ ps) = hearing_all (suc t) (told_to lost t j 0 numbers) p ∷ all_hearing lost t numbers (suc j) ps
+all_hearing lost t numbers j (p ∷ ps) =
+    hearing_all (suc t) (told_to lost t j 0 numbers) p ∷ all_hearing lost t numbers (suc j) ps
 
 -- something comes to one of these players at a moment
 abbrev pub ComesToOne : ℕ → List Player → Type 0

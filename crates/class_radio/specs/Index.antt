@@ -12,7 +12,8 @@ loss_key at from to = (at * 4294967296 + from) * 4294967296 + to
 -- These are the numbers of the losses, whose boards' numbers are below 2^32.
 pub record HasKeys (list : List Loss) (keys : List ℕ) : Type 0 where
   pub below : (at from to : ℕ) → 4294967296 ≤ from ⊎ 4294967296 ≤ to → lost_by list at from to ≡ false
-  pub found : (at from to : ℕ) → at < 4294967296 → from < 4294967296 → to < 4294967296 → lost_by list at from to ≡ list_any (λ k. k == loss_key at from to) keys
+  pub found : (at from to : ℕ) → at < 4294967296 → from < 4294967296 → to < 4294967296
+      → lost_by list at from to ≡ list_any (λ k. k == loss_key at from to) keys
 
 -- They rise besides.
 pub record IsIndex (list : List Loss) (keys : List ℕ) : Type 0 where

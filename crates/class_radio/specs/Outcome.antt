@@ -22,7 +22,8 @@ use Rattle.class_radio.specs.declared.run.ClassEnd.TheVariants.{Done, Budget, Si
 abbrev pub setups_of : List (Vec ℕ Global) → List Script → List Setup
 setups_of [] scripts = []
 setups_of (image ∷ images) [] = []
-setups_of (image ∷ images) (script ∷ scripts) = record { image = image.items; script = script } ∷ setups_of images scripts
+setups_of (image ∷ images) (script ∷ scripts) =
+    record { image = image.items; script = script } ∷ setups_of images scripts
 
 -- the members of a class, each with free words of its own
 abbrev pub members_of : List Setup → List (List ℕ) → List (Member Fiber Shared)
@@ -31,7 +32,8 @@ members_of (p ∷ ps) [] = member_of p [] ∷ members_of ps []
 members_of (p ∷ ps) (free ∷ frees) = member_of p free ∷ members_of ps frees
 
 abbrev pub class_of_parts : List Setup → List Loss → ℕ → List (List ℕ) → Class Fiber Shared
-class_of_parts parts losses until frees = record { members = members_of parts frees; until = until; lost = lost_by losses }
+class_of_parts parts losses until frees =
+    record { members = members_of parts frees; until = until; lost = lost_by losses }
 
 abbrev pub boards_of : ℕ → List (Played Fiber Shared) → List Board
 boards_of until ps = map (λ (p : Played Fiber Shared). (world_of until p).board) ps
@@ -75,7 +77,8 @@ module _ (parts : List Setup) (losses : List Loss) (until budget : ℕ) where
     pub cut : IsRunUpTo (class_of_parts parts losses until frees) below here above
     pub at : length below ≡ number
     pub steps : here.steps ≡ budget
-    pub written : Took taken taken' (cut_text number (world_of until here).board (boards_of until below) (boards_of until (below ++ here ∷ above)))
+    pub written : Took taken taken'
+        (cut_text number (world_of until here).board (boards_of until below) (boards_of until (below ++ here ∷ above)))
 
   -- The sink failed in a text that the class has where each board may make so many steps.
   pub record IsStopped (taken taken' : Option (List ℕ)) : Type 0 where

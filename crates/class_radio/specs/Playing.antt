@@ -59,7 +59,8 @@ abbrev pub outlook : List Observation → Player → Outlook
 outlook seen p = record { board = record (plain_of p.board.engine) { seen = seen }; next = p.due }
 
 -- It waits: its board shows what the run on this script comes to before a moment, without these events, which it keeps for that moment.
-pub record IsInWait (setup : Setup) (script : List Entry) (t : ℕ) (used : List ℕ) (seen : List Observation) (p : Player) : Type 0 where
+pub record IsInWait (setup : Setup) (script : List Entry) (t : ℕ) (used : List ℕ) (seen : List Observation)
+    (p : Player) : Type 0 where
   pub whole : IsWhole p.board.engine p.board.instructions
   pub resting : IsResting p.board.engine
   pub events : List Event
@@ -71,11 +72,15 @@ pub record IsInWait (setup : Setup) (script : List Entry) (t : ℕ) (used : List
   pub is_seen : seen_of met ≡ seen
   pub worlds : List ℕ → World Fiber Shared
   pub shown : Shows setup.image (state_of p.board.engine) worlds met
-  pub is : (rest : List ℕ) → world_before setup.script.end t (run_given setup script p.board.instructions (used ++ rest)) ≡ with_kept t events (worlds rest)
+  pub is : (rest : List ℕ)
+      → world_before setup.script.end t (run_given setup script p.board.instructions (used ++ rest))
+      ≡ with_kept t events (worlds rest)
 
 -- It has gone through all moments before this one, on this script, and seen this, whatever free words follow those that were used.
-pub record HasPlayed (setup : Setup) (script : List Entry) (t : ℕ) (used : List ℕ) (seen : List Observation) (p : Player) : Type 0 where
-  pub looks : (rest : List ℕ) → IsSeenAs setup.script.end t (run_given setup script p.board.instructions (used ++ rest)) (outlook seen p)
+pub record HasPlayed (setup : Setup) (script : List Entry) (t : ℕ) (used : List ℕ) (seen : List Observation)
+    (p : Player) : Type 0 where
+  pub looks : (rest : List ℕ)
+      → IsSeenAs setup.script.end t (run_given setup script p.board.instructions (used ++ rest)) (outlook seen p)
   pub waits : p.board.engine.end ≡ None → IsInWait setup script t used seen p
 
 -- It is as it was mounted.
@@ -97,7 +102,8 @@ heard_event number = record { source = pos radio_source; value = number }
 
 -- what a player that still plays is once it heard a number for a moment, and each player
 abbrev pub hearing_as : Standing → ℕ → ℤ → Player → Player
-hearing_as Plays t number p = record p { board = record p.board { kept = queued (heard_event number) p.board.kept }; due = Some t }
+hearing_as Plays t number p =
+    record p { board = record p.board { kept = queued (heard_event number) p.board.kept }; due = Some t }
 hearing_as Panicked t number p = p
 hearing_as Faulted t number p = p
 

@@ -38,7 +38,8 @@ pub record Past : Type 0 where
 -- the pasts of boards to which nothing has happened
 abbrev pub begun_pasts : List Setup → List Past
 begun_pasts [] = []
-begun_pasts (s ∷ ss) = record { setup = s; script = world_entries s.script.entries; used = []; seen = [] } ∷ begun_pasts ss
+begun_pasts (s ∷ ss) =
+    record { setup = s; script = world_entries s.script.entries; used = []; seen = [] } ∷ begun_pasts ss
 
 abbrev pub setups_in : List Past → List Setup
 setups_in hs = map (λ (h : Past). h.setup) hs
@@ -58,7 +59,9 @@ shown_boards hs ps = looks (outlooks (seens hs) ps)
 -- the script of each board, from board j on, is its own with what it has heard of what these have seen before a moment
 abbrev pub HaveHeard : (lost : ℕ → ℕ → ℕ → Bool) → (t until : ℕ) → List (List Observation) → ℕ → List Past → Type 0
 HaveHeard lost t until seen j [] = Unit {0}
-HaveHeard lost t until seen j (h ∷ hs) = (h.script ≡ with_heard (heard_of lost t until j 0 seen) (world_entries h.setup.script.entries)) × HaveHeard lost t until seen (suc j) hs
+HaveHeard lost t until seen j (h ∷ hs) =
+    (h.script ≡ with_heard (heard_of lost t until j 0 seen) (world_entries h.setup.script.entries))
+    × HaveHeard lost t until seen (suc j) hs
 
 -- The board with this number has come to a moment.
 pub record IsAtMoment (budget t number : ℕ) (h : Past) (p : Player) : Type 0 where
@@ -80,9 +83,11 @@ EachBoard R b (h ∷ hs) (p ∷ ps) = R b h p × EachBoard R (suc b) hs ps
 
 -- The boards of a class are in a moment: the first have gone through it, and the others have come to it. Since the sink had taken what it had at the
 -- beginning, it took the lines of all boards before the moment, and those of the first at it.
-pub record AreIn (plan : ClassPlan) (began : Option (List ℕ)) (t : ℕ) (gone still : List Past) (first rest : List Player) (taken : Option (List ℕ)) : Type 0 where
+pub record AreIn (plan : ClassPlan) (began : Option (List ℕ)) (t : ℕ) (gone still : List Past)
+    (first rest : List Player) (taken : Option (List ℕ)) : Type 0 where
   pub setups : setups_in (gone ++ still) ≡ plan.setups
   pub heard : HaveHeard (lost_by plan.losses) t plan.until (seens (gone ++ still)) 0 (gone ++ still)
   pub passed : EachBoard (Passed plan.budget t) 0 gone first
   pub come : EachBoard (IsAtMoment plan.budget t) (length gone) still rest
-  pub written : Took began taken (lines_before t (shown_boards (gone ++ still) (first ++ rest)) ++ moment_lines t 0 (shown_boards gone first))
+  pub written : Took began taken
+      (lines_before t (shown_boards (gone ++ still) (first ++ rest)) ++ moment_lines t 0 (shown_boards gone first))

@@ -23,7 +23,8 @@ use Rattle.class_radio.specs.declared.player.Step.TheVariants.{Through, Budget, 
 use Rattle.class_radio.specs.Playing.{Setup, run_given, IsNumbered, outlook, HasPlayed, HasCome, said}
 
 -- It may go through a moment: it has come to it, and something comes to it then.
-pub record MayGoOn (number budget : ℕ) (setup : Setup) (script : List Entry) (t : ℕ) (used : List ℕ) (seen : List Observation) (p : Player) : Type 0 where
+pub record MayGoOn (number budget : ℕ) (setup : Setup) (script : List Entry) (t : ℕ) (used : List ℕ)
+    (seen : List Observation) (p : Player) : Type 0 where
   pub numbered : IsNumbered number budget p
   pub some : 1 ≤ budget
   pub come : HasCome setup script t used seen p
@@ -36,7 +37,8 @@ abbrev pub world_behind : Setup → List Entry → (t steps : ℕ) → List ℕ 
 world_behind setup script t steps free = world_before setup.script.end (t + 1) (run_given setup script steps free)
 
 -- It went through the moment and wrote its lines of it.
-pub record WentThrough (number budget : ℕ) (setup : Setup) (script : List Entry) (t : ℕ) (seen : List Observation) (new : Player) (taken taken' : Option (List ℕ)) : Type 0 where
+pub record WentThrough (number budget : ℕ) (setup : Setup) (script : List Entry) (t : ℕ) (seen : List Observation)
+    (new : Player) (taken taken' : Option (List ℕ)) : Type 0 where
   pub used : List ℕ
   pub sees : List Observation
   pub numbered : IsNumbered number budget new
@@ -47,7 +49,8 @@ pub record WentThrough (number budget : ℕ) (setup : Setup) (script : List Entr
   pub written : Took taken taken' (lines_at t number (outlook sees new).board)
 
 -- Its budget of steps ended in the moment, at which somebody would go on; it wrote the lines of what was seen.
-pub record WasCut (number budget : ℕ) (setup : Setup) (script : List Entry) (t : ℕ) (seen : List Observation) (taken taken' : Option (List ℕ)) : Type 0 where
+pub record WasCut (number budget : ℕ) (setup : Setup) (script : List Entry) (t : ℕ) (seen : List Observation)
+    (taken taken' : Option (List ℕ)) : Type 0 where
   pub used : List ℕ
   pub sees : List Observation
   pub busy : (rest : List ℕ) → IsBusy (world_behind setup script t budget (used ++ rest))
@@ -57,20 +60,26 @@ pub record WasCut (number budget : ℕ) (setup : Setup) (script : List Entry) (t
   pub written : Took taken taken' (seen_at t number sees)
 
 -- The sink failed in a line of the moment: a part of the lines was taken that it has after so many steps of its budget.
-pub record WasBroken (number budget : ℕ) (setup : Setup) (script : List Entry) (t : ℕ) (seen : List Observation) (taken taken' : Option (List ℕ)) : Type 0 where
+pub record WasBroken (number budget : ℕ) (setup : Setup) (script : List Entry) (t : ℕ) (seen : List Observation)
+    (taken taken' : Option (List ℕ)) : Type 0 where
   pub used : List ℕ
   pub steps : ℕ
   pub within : suc steps ≤ budget
   pub settled : (rest : List ℕ) → IsSettled (world_behind setup script t steps (used ++ rest))
   pub clock : (rest : List ℕ) → (world_behind setup script t (suc steps) (used ++ rest)).board.clock ≡ t
   pub earlier : (rest : List ℕ) → before t (world_behind setup script t (suc steps) (used ++ rest)).board.seen ≡ seen
-  pub written : (rest : List ℕ) → TookPart taken taken' (lines_at t number (world_behind setup script t (suc steps) (used ++ rest)).board)
+  pub written : (rest : List ℕ)
+      → TookPart taken taken' (lines_at t number (world_behind setup script t (suc steps) (used ++ rest)).board)
 
 -- What a call that went through a moment answered.
-abbrev pub PlayedOn : (number budget : ℕ) → Setup → List Entry → ℕ → List Observation → Player → Option (List ℕ) → Option (List ℕ) → ℕ → ℕ → Step → Type 0
-PlayedOn number budget setup script t seen new taken taken' fs fs' Through = WentThrough number budget setup script t seen new taken taken'
-PlayedOn number budget setup script t seen new taken taken' fs fs' Budget = WasCut number budget setup script t seen taken taken'
-PlayedOn number budget setup script t seen new taken taken' fs fs' SinkFault = WasBroken number budget setup script t seen taken taken' × Rose fs fs'
+abbrev pub PlayedOn : (number budget : ℕ) → Setup → List Entry → ℕ → List Observation → Player → Option (List ℕ)
+    → Option (List ℕ) → ℕ → ℕ → Step → Type 0
+PlayedOn number budget setup script t seen new taken taken' fs fs' Through =
+    WentThrough number budget setup script t seen new taken taken'
+PlayedOn number budget setup script t seen new taken taken' fs fs' Budget =
+    WasCut number budget setup script t seen taken taken'
+PlayedOn number budget setup script t seen new taken taken' fs fs' SinkFault =
+    WasBroken number budget setup script t seen taken taken' × Rose fs fs'
 
 -- what is taken of a budget is there
 abbrev pub IsTaken : ℕ → Gone → Type 0

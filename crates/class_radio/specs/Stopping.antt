@@ -49,16 +49,20 @@ pub record FailedLast (budget t number : ℕ) (h : Past) (taken taken' : Option 
 abbrev pub EndsIn : (budget t number : ℕ) → Past → Option (List ℕ) → Option (List ℕ) → ℕ → ℕ → ClassEnd → Type 0
 EndsIn budget t number h taken taken' fs fs' (Done panics faults) = ⊥
 EndsIn budget t number h taken taken' fs fs' (Budget b) = (b ≡ number) × SpentIn budget t number h taken taken'
-EndsIn budget t number h taken taken' fs fs' SinkFault = (WasBroken number budget h.setup h.script t h.seen taken taken' ⊎ FailedLast budget t number h taken taken') × Rose fs fs'
+EndsIn budget t number h taken taken' fs fs' SinkFault =
+    (WasBroken number budget h.setup h.script t h.seen taken taken' ⊎ FailedLast budget t number h taken taken')
+    × Rose fs fs'
 
 -- it hadn't written its end before the moment
 abbrev pub HasGoneOn : (t : ℕ) → Past → Player → Type 0
 HasGoneOn t h p = (s b : ℕ) → s < t → stopped_at s b (outlook h.seen p).board ≡ []
 
 -- what a board's turn at a moment answers
-abbrev pub Turned : (budget t number : ℕ) → Past → Player → Player → Option (List ℕ) → Option (List ℕ) → ℕ → ℕ → Result (Unit {0}) ClassEnd → Type 0
+abbrev pub Turned : (budget t number : ℕ) → Past → Player → Player → Option (List ℕ) → Option (List ℕ) → ℕ → ℕ
+    → Result (Unit {0}) ClassEnd → Type 0
 Turned budget t number h p q taken taken' fs fs' (Ok u) = GoesOn budget t number h p q taken taken'
-Turned budget t number h p q taken taken' fs fs' (Err end) = HasGoneOn t h p × EndsIn budget t number h taken taken' fs fs' end
+Turned budget t number h p q taken taken' fs fs' (Err end) =
+    HasGoneOn t h p × EndsIn budget t number h taken taken' fs fs' end
 
 -- The run of a class was ended in a moment by the board behind those that had gone through it.
 pub record IsEnded (plan : ClassPlan) (began taken : Option (List ℕ)) (fs fs' : ℕ) (end : ClassEnd) : Type 0 where
@@ -78,24 +82,32 @@ pub record IsEnded (plan : ClassPlan) (began taken : Option (List ℕ)) (fs fs' 
   pub ends : EndsIn plan.budget t (length gone) here between taken faults fs' end
 
 -- All boards of a class have come to a moment, none after its end.
-pub record AreAt (plan : ClassPlan) (began : Option (List ℕ)) (t : ℕ) (pasts : List Past) (players : List Player) (taken : Option (List ℕ)) : Type 0 where
+pub record AreAt (plan : ClassPlan) (began : Option (List ℕ)) (t : ℕ) (pasts : List Past) (players : List Player)
+    (taken : Option (List ℕ)) : Type 0 where
   pub plan_is : IsSoundPlan plan
   pub within : t ≤ plan.until
   pub are : AreIn plan began t [] pasts [] players taken
 
 -- what all boards' turns at a moment answer: all have gone through it, or one ended the run
-abbrev pub AllTurned : (plan : ClassPlan) → Option (List ℕ) → ℕ → List Player → Option (List ℕ) → ℕ → ℕ → Result (Unit {0}) ClassEnd → Type 0
+abbrev pub AllTurned : (plan : ClassPlan) → Option (List ℕ) → ℕ → List Player → Option (List ℕ) → ℕ → ℕ
+    → Result (Unit {0}) ClassEnd → Type 0
 AllTurned plan began t players taken fs fs' (Ok u) = (pasts : List Past) × AreIn plan began t pasts [] players [] taken
 AllTurned plan began t players taken fs fs' (Err end) = IsEnded plan began taken fs fs' end
 
 -- what all moments of a class answer: all boards have come behind its end, or one ended the run
-abbrev pub AllStepped : (plan : ClassPlan) → Option (List ℕ) → List Player → Option (List ℕ) → ℕ → ℕ → Result (Unit {0}) ClassEnd → Type 0
-AllStepped plan began players taken fs fs' (Ok u) = (pasts : List Past) × AreIn plan began (suc plan.until) [] pasts [] players taken
+abbrev pub AllStepped : (plan : ClassPlan) → Option (List ℕ) → List Player → Option (List ℕ) → ℕ → ℕ
+    → Result (Unit {0}) ClassEnd → Type 0
+AllStepped plan began players taken fs fs' (Ok u) =
+    (pasts : List Past) × AreIn plan began (suc plan.until) [] pasts [] players taken
 AllStepped plan began players taken fs fs' (Err end) = IsEnded plan began taken fs fs' end
 
 -- what became of the closing lines of players that have seen this: all were taken, with how many of them stopped, or the sink failed in them
-abbrev pub ClosesAll : (seen : List (List Observation)) → (end : ℕ) → List Player → Option (List ℕ) → Option (List ℕ) → ℕ → ℕ → ClassEnd → Type 0
+abbrev pub ClosesAll : (seen : List (List Observation)) → (end : ℕ) → List Player → Option (List ℕ) → Option (List ℕ)
+    → ℕ → ℕ → ClassEnd → Type 0
 ClosesAll seen end players taken taken' fs fs' (Done panics faults) =
-    Took taken taken' (closing_lines (last_line end (outlooks seen players)) 0 (looks (outlooks seen players))) × (panics ≡ how_many_stand Panicked players) × (faults ≡ how_many_stand Faulted players)
+    Took taken taken' (closing_lines (last_line end (outlooks seen players)) 0 (looks (outlooks seen players)))
+    × (panics ≡ how_many_stand Panicked players) × (faults ≡ how_many_stand Faulted players)
 ClosesAll seen end players taken taken' fs fs' (Budget b) = ⊥
-ClosesAll seen end players taken taken' fs fs' SinkFault = TookPart taken taken' (closing_lines (last_line end (outlooks seen players)) 0 (looks (outlooks seen players))) × Rose fs fs'
+ClosesAll seen end players taken taken' fs fs' SinkFault =
+    TookPart taken taken' (closing_lines (last_line end (outlooks seen players)) 0 (looks (outlooks seen players)))
+    × Rose fs fs'

@@ -79,7 +79,8 @@ fn put_end<K: Sink>(
     out: &mut K,
 ) -> Result<(), PutFailed>
     ensures { (number : ℕ) → IsLed number player.now
-        → PutsTo K.taken K.faults out.old out.new (end_line_of player.now.standing number (last_line_of by_script end latest)) result }
+        → PutsTo K.taken K.faults out.old out.new
+        (end_line_of player.now.standing number (last_line_of by_script end latest)) result }
 {
     match player.standing() {
         Standing::Plays => put_last(player, by_script, end, latest, out),
@@ -92,7 +93,8 @@ fn put_end<K: Sink>(
 /// the greatest moment that some board went through.
 pub fn put_ends<K: Sink>(players: &[Player], end: u32, out: &mut K) -> Result<(), PutFailed>
     ensures { (seen : List (List Observation)) → AreLed 0 players.now
-        → PutsTo K.taken K.faults out.old out.new (closing_lines (last_line end (outlooks seen players.now)) 0 (looks (outlooks seen players.now))) result }
+        → PutsTo K.taken K.faults out.old out.new
+        (closing_lines (last_line end (outlooks seen players.now)) 0 (looks (outlooks seen players.now))) result }
 {
     let by_script = some_waits(players);
     let latest = latest(players);

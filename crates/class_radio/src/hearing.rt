@@ -15,7 +15,8 @@ fn hear_one(players: &mut Vec<Player>, from: usize, to: usize, moment: u32)
     requires to { to < vec_len players.old }
     requires other { from ≢ to }
     ensures heard { (d : PlayerState) → players.new.items ≡ set players.old.items to
-        (hearing_all (moment + 1) (said moment (slice_index_or players.old.items from d)) (slice_index_or players.old.items to d)) }
+        (hearing_all (moment + 1) (said moment (slice_index_or players.old.items from d))
+        (slice_index_or players.old.items to d)) }
     ensures same { vec_len players.new ≡ vec_len players.old }
 {
     for at in 0..players[from].sent_at(moment).len() {
@@ -29,7 +30,8 @@ fn hear_others(players: &mut Vec<Player>, losses: &Losses, to: usize, moment: u3
     requires early { moment < 4294967295 }
     requires to { to < vec_len players.old }
     ensures heard { (d : PlayerState) → players.new.items ≡ set players.old.items to
-        (hearing_all (moment + 1) (told_to (lost_by losses.now) moment to 0 (map (said moment) players.old.items)) (slice_index_or players.old.items to d)) }
+        (hearing_all (moment + 1) (told_to (lost_by losses.now) moment to 0 (map (said moment) players.old.items))
+        (slice_index_or players.old.items to d)) }
     ensures same { vec_len players.new ≡ vec_len players.old }
 {
     for from in 0..players.len() {
@@ -42,7 +44,8 @@ fn hear_others(players: &mut Vec<Player>, losses: &Losses, to: usize, moment: u3
 /// All boards hear what the others sent at a moment, one moment later: in the order of those, and of sending.
 pub fn hear_all(players: &mut Vec<Player>, losses: &Losses, moment: u32)
     requires early { moment < 4294967295 }
-    ensures heard { players.new.items ≡ all_hearing (lost_by losses.now) moment (map (said moment) players.old.items) 0 players.old.items }
+    ensures heard { players.new.items
+        ≡ all_hearing (lost_by losses.now) moment (map (said moment) players.old.items) 0 players.old.items }
 {
     for to in 0..players.len() {
         hear_others(players, losses, to, moment);

@@ -22,7 +22,8 @@ pub fn mount_all(
     requires scripts { vec_len scripts ≡ vec_len images }
     requires sound { All IsSound scripts.items }
     requires most { budget ≤ 2147483648 }
-    ensures mounted { IfOk result (λ players. EachBoard (IsAtMoment budget 0) 0 (begun_pasts (setups_of images.items scripts.items)) players.items) }
+    ensures mounted { IfOk result (λ players.
+        EachBoard (IsAtMoment budget 0) 0 (begun_pasts (setups_of images.items scripts.items)) players.items) }
 {
     let mut players = Vec::new(alloc);
     for (image, script) in images.into_iter().zip(scripts) {

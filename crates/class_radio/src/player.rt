@@ -145,9 +145,12 @@ impl Player {
     /// `Budget` comes exactly where its whole budget was executed and somebody would still go on; no closing line is put then. `SinkFault` comes only
     /// where the sink's count of faults rose in this call. No memory is taken.
     pub fn go<K: Sink>(&mut self, moment: u32, out: &mut K) -> Step
-        requires may { (number budget : ℕ) × (setup : Setup) × (script : List Entry) × (used : List ℕ) × (seen : List Observation) × MayGoOn number budget setup script moment used seen self.old }
-        ensures stepped { (number budget : ℕ) (setup : Setup) (script : List Entry) (used : List ℕ) (seen : List Observation) → MayGoOn number budget setup script moment used seen self.old
-            → PlayedOn number budget setup script moment seen self.new (K.taken out.old) (K.taken out.new) (K.faults out.old) (K.faults out.new) result }
+        requires may { (number budget : ℕ) × (setup : Setup) × (script : List Entry) × (used : List ℕ)
+            × (seen : List Observation) × MayGoOn number budget setup script moment used seen self.old }
+        ensures stepped { (number budget : ℕ) (setup : Setup) (script : List Entry) (used : List ℕ)
+            (seen : List Observation) → MayGoOn number budget setup script moment used seen self.old
+            → PlayedOn number budget setup script moment seen self.new (K.taken out.old) (K.taken out.new)
+            (K.faults out.old) (K.faults out.new) result }
         ensures lead { self.new.lead ≡ self.old.lead }
         ensures later { K.faults out.old ≤ K.faults out.new }
     {

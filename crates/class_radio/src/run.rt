@@ -34,7 +34,8 @@ pub enum ClassEnd {
 fn close_all<K: Sink>(players: &[Player], end: u32, out: &mut K) -> ClassEnd
     requires few { length players.now < 4294967296 }
     requires led { AreLed 0 players.now }
-    ensures closes { (seen : List (List Observation)) → ClosesAll seen end players.now (K.taken out.old) (K.taken out.new) (K.faults out.old) (K.faults out.new) result }
+    ensures closes { (seen : List (List Observation)) → ClosesAll seen end players.now (K.taken out.old)
+        (K.taken out.new) (K.faults out.old) (K.faults out.new) result }
     ensures later { K.faults out.old ≤ K.faults out.new }
 {
     match put_ends(players, end, out) {
@@ -68,7 +69,8 @@ pub fn run_class<K: Sink>(
     requires ends { All (λ (s : EventScript). s.end ≡ end) scripts.items }
     requires least { 1 ≤ budget }
     requires most { budget ≤ 2147483648 }
-    ensures ran { IfOk result (RanClass (setups_of images.items scripts.items) lose end budget (K.taken out.old) (K.taken out.new) (K.faults out.old) (K.faults out.new)) }
+    ensures ran { IfOk result (RanClass (setups_of images.items scripts.items) lose end budget (K.taken out.old)
+        (K.taken out.new) (K.faults out.old) (K.faults out.new)) }
     ensures nothing { OnErr result (K.taken out.new ≡ K.taken out.old) }
     ensures later { K.faults out.old ≤ K.faults out.new }
 {

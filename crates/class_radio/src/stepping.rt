@@ -41,9 +41,12 @@ pub fn step_all<K: Sink>(
     end: u32,
     out: &mut K,
 ) -> Result<(), ClassEnd>
-    requires may { (plan : ClassPlan) × (pasts : List Past) × (plan.losses ≡ losses.now) × (plan.until ≡ end) × AreAt plan (K.taken out.old) 0 pasts players.old.items (K.taken out.old) }
-    ensures stepped { (plan : ClassPlan) (pasts : List Past) → plan.losses ≡ losses.now → plan.until ≡ end → AreAt plan (K.taken out.old) 0 pasts players.old.items (K.taken out.old)
-        → AllStepped plan (K.taken out.old) players.new.items (K.taken out.new) (K.faults out.old) (K.faults out.new) result }
+    requires may { (plan : ClassPlan) × (pasts : List Past) × (plan.losses ≡ losses.now) × (plan.until ≡ end)
+        × AreAt plan (K.taken out.old) 0 pasts players.old.items (K.taken out.old) }
+    ensures stepped { (plan : ClassPlan) (pasts : List Past) → plan.losses ≡ losses.now → plan.until ≡ end
+        → AreAt plan (K.taken out.old) 0 pasts players.old.items (K.taken out.old)
+        → AllStepped plan (K.taken out.old) players.new.items (K.taken out.new) (K.faults out.old)
+        (K.faults out.new) result }
     ensures later { K.faults out.old ≤ K.faults out.new }
 {
     let mut next = Some(0);

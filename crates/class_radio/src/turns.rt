@@ -19,7 +19,8 @@ fn go_now<K: Sink>(
     requires may { (budget : ℕ) × (h : Past) × MayTurn budget moment number h player.old }
     requires due { player.old.due ≡ Some moment }
     ensures turned { (budget : ℕ) (h : Past) → MayTurn budget moment number h player.old
-        → Turned budget moment number h player.old player.new (K.taken out.old) (K.taken out.new) (K.faults out.old) (K.faults out.new) result }
+        → Turned budget moment number h player.old player.new (K.taken out.old) (K.taken out.new) (K.faults out.old)
+        (K.faults out.new) result }
     ensures later { K.faults out.old ≤ K.faults out.new }
 {
     match player.go(moment, out) {
@@ -42,7 +43,8 @@ fn go_one<K: Sink>(
     requires few { number < 10 }
     requires may { (budget : ℕ) × (h : Past) × MayTurn budget moment number h player.old }
     ensures turned { (budget : ℕ) (h : Past) → MayTurn budget moment number h player.old
-        → Turned budget moment number h player.old player.new (K.taken out.old) (K.taken out.new) (K.faults out.old) (K.faults out.new) result }
+        → Turned budget moment number h player.old player.new (K.taken out.old) (K.taken out.new) (K.faults out.old)
+        (K.faults out.new) result }
     ensures later { K.faults out.old ≤ K.faults out.new }
 {
     match player.due() {
@@ -59,8 +61,10 @@ fn go_one<K: Sink>(
 
 /// All boards to which something comes at a moment go through it, in their order. An end is told by the first whose budget ended, or at which the sink failed.
 pub fn go_all<K: Sink>(players: &mut Vec<Player>, moment: u32, out: &mut K) -> Result<(), ClassEnd>
-    requires may { (plan : ClassPlan) × (began : Option (List ℕ)) × (pasts : List Past) × AreAt plan began moment pasts players.old.items (K.taken out.old) }
-    ensures turned { (plan : ClassPlan) (began : Option (List ℕ)) (pasts : List Past) → AreAt plan began moment pasts players.old.items (K.taken out.old)
+    requires may { (plan : ClassPlan) × (began : Option (List ℕ)) × (pasts : List Past)
+        × AreAt plan began moment pasts players.old.items (K.taken out.old) }
+    ensures turned { (plan : ClassPlan) (began : Option (List ℕ)) (pasts : List Past)
+        → AreAt plan began moment pasts players.old.items (K.taken out.old)
         → AllTurned plan began moment players.new.items (K.taken out.new) (K.faults out.old) (K.faults out.new) result }
     ensures later { K.faults out.old ≤ K.faults out.new }
 {

@@ -58,7 +58,8 @@ some_next (o ∷ os) = is_some o.next || some_next os
 
 -- the closing line of a class whose boards look so when nothing more comes up to its end, and all its text
 abbrev pub last_line : ℕ → List Outlook → ByteList
-last_line until os = if some_next os then closing_line until (Some By_script) else closing_line (latest (looks os)) (Some Quietly)
+last_line until os =
+    if some_next os then closing_line until (Some By_script) else closing_line (latest (looks os)) (Some Quietly)
 
 abbrev pub text_of_looks : ℕ → List Outlook → ByteList
 text_of_looks until os = lines_before (suc until) (looks os) ++ closing_lines (last_line until os) 0 (looks os)

@@ -29,7 +29,8 @@ pub record HasCutText {A S : Type 0} (C : Class A S) (budget : ℕ) (text : Byte
   pub above : List (Played A S)
   pub cut : IsRunUpTo C below here above
   pub steps : here.steps ≡ budget
-  pub is : text ≡ cut_text (length below) (world_of C.until here).board (boards_now C.until below) (boards_now C.until (below ++ here ∷ above))
+  pub is : text ≡ cut_text (length below) (world_of C.until here).board (boards_now C.until below)
+      (boards_now C.until (below ++ here ∷ above))
 
 abbrev pub IsTextOf : {A S : Type 0} → Class A S → ℕ → ByteList → Type 0
 IsTextOf C budget text = HasWholeText C budget text ⊎ HasCutText C budget text

@@ -27,7 +27,9 @@ image_rule = record (new_rule (codes "image")) { long = Some (codes "image"); ac
 
 -- a subcommand of this name
 abbrev pub command_app : List ℕ → App
-command_app name = with_rule (with_rule (with_rule (with_rule (with_rule (with_rule (new_app name) name_rule) script_rule) arrivals_rule) budget_rule) stats_rule) image_rule
+command_app name =
+    with_rule (with_rule (with_rule (with_rule (with_rule (with_rule (new_app name) name_rule) script_rule)
+    arrivals_rule) budget_rule) stats_rule) image_rule
 
 -- no word stands before the subcommand, and there is no help
 abbrev pub without_help : Shape → Shape
@@ -39,7 +41,9 @@ bare_app = on_top without_help (new_app (codes "sts"))
 -- the command line
 abbrev pub tool_app : App
 tool_app =
-    with_subcommand (with_subcommand (with_subcommand (with_subcommand (with_subcommand (with_subcommand (with_subcommand bare_app
-    (command_app (codes "check")).top) (command_app (codes "build")).top) (command_app (codes "run")).top) (command_app (codes "run-hex")).top)
+    with_subcommand
+    (with_subcommand (with_subcommand (with_subcommand (with_subcommand (with_subcommand (with_subcommand bare_app
+    (command_app (codes "check")).top) (command_app (codes "build")).top) (command_app (codes "run")).top)
+    (command_app (codes "run-hex")).top)
     (command_app (codes "run-at")).top) (command_app (codes "class")).top)
     (command_app (codes "big")).top

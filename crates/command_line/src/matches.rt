@@ -28,7 +28,8 @@ fn names_in<'a>(matches: &ArgMatches<'a>) -> Names<'a>
 
 /// What the matches of a command say.
 fn given_in<'a>(matches: &ArgMatches<'a>) -> Option<Given<'a>>
-    ensures said { (said : Said) → Says said (rows_of (found_of matches.now)) → option_map said_view result ≡ Some said }
+    ensures said { (said : Said) → Says said (rows_of (found_of matches.now))
+        → option_map said_view result ≡ Some said }
     ensures range { IfSome result (λ given. HasBudget given.budget) }
 {
     let given = Given {
@@ -45,7 +46,8 @@ fn given_in<'a>(matches: &ArgMatches<'a>) -> Option<Given<'a>>
 
 /// What the matches ask for.
 pub fn order_in<'a>(matches: &ArgMatches<'a>) -> Option<Order<'a>>
-    ensures order { (command : List ℕ) (rows : List Row) (said : Said) → subcommand_rows_of matches.now ≡ Some (command, rows) → Says said rows
+    ensures order { (command : List ℕ) (rows : List Row) (said : Said)
+        → subcommand_rows_of matches.now ≡ Some (command, rows) → Says said rows
         → option_map order_view result ≡ asked_by command said }
     ensures range { IfSome result IsInRange }
 {

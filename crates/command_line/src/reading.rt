@@ -17,7 +17,8 @@ use sts_words::{Order, read_words};
 /// The matches of the words. Where `clap` takes these words only memory can be wanting.
 fn matches_of<'a>(alloc: Global, words: &'a [String]) -> Result<ArgMatches<'a>, Error>
     ensures matches { IfOk result (HasMatchesOf tool_app (map string_bytes words.entry.now)) }
-    ensures memory { IfErr result (λ e. takes tool_app (map string_bytes words.entry.now) ≡ true → kind_of e ≡ ErrorKind.OutOfMemory) }
+    ensures memory { IfErr result
+        (λ e. takes tool_app (map string_bytes words.entry.now) ≡ true → kind_of e ≡ ErrorKind.OutOfMemory) }
 {
     let command = tool(alloc)?;
     command.try_get_matches_from(words)

@@ -66,7 +66,8 @@ fn image<'a>(alloc: Global) -> Arg<'a>
 /// A command with its names.
 fn with_names<'a>(alloc: Global, line: Command<'a>) -> Result<Command<'a>, AllocError>
     requires { (out-Command line).has_globals ≡ false }
-    ensures app { IfOk result (λ c. app_of c ≡ with_rule (with_rule (with_rule (app_of line.entry) spec.name_rule) spec.script_rule) spec.arrivals_rule) }
+    ensures app { IfOk result (λ c. app_of c
+        ≡ with_rule (with_rule (with_rule (app_of line.entry) spec.name_rule) spec.script_rule) spec.arrivals_rule) }
     ensures local { IfOk result (λ c. (out-Command c).has_globals ≡ false) }
 {
     line.arg(name(alloc))?

@@ -8,7 +8,8 @@ use Rattle.type_derive.specs.Derived.{Less, Within, Solves, at}
 abbrev pub IsMonotone : (List (Option StaticType) → ℕ → Option StaticType) → Type 0
 IsMonotone rule = (xs ys : List (Option StaticType)) → Within xs ys → (d : ℕ) → Less (rule xs d) (rule ys d)
 
-pub record IsUnderway (rule : List (Option StaticType) → ℕ → Option StaticType) (kinds : List (Option StaticType)) : Type 0 where
+pub record IsUnderway (rule : List (Option StaticType) → ℕ → Option StaticType)
+    (kinds : List (Option StaticType)) : Type 0 where
   pub below : (others : List (Option StaticType)) → length others ≡ length kinds → Solves rule others
       → Within kinds others
   pub kept : (d : ℕ) → d < length kinds → Less (at kinds d) (rule kinds d)
@@ -24,7 +25,8 @@ holes (None ∷ xs) = holes xs + 1
 holes (Some t ∷ xs) = holes xs
 
 -- one table, and one behind it in which something was said, or nothing
-pub record Moves (rule : List (Option StaticType) → ℕ → Option StaticType) (old new : List (Option StaticType)) (said : Bool) : Type 0 where
+pub record Moves (rule : List (Option StaticType) → ℕ → Option StaticType) (old new : List (Option StaticType))
+    (said : Bool) : Type 0 where
   pub underway : IsUnderway rule new
   pub len : length new ≡ length old
   pub fewer : said ≡ true → holes new < holes old

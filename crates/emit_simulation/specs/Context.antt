@@ -22,7 +22,8 @@ use Rattle.emit_simulation.specs.Ties.{spots}
 
 -- what a fiber sees, and its bank
 abbrev pub view_in : Fiber → Shared → View
-view_in c t = record { low = c.registers.r; flags = c.registers.flags; words = c.bank; globals = t.globals; arena = t.arena }
+view_in c t =
+    record { low = c.registers.r; flags = c.registers.flags; words = c.bank; globals = t.globals; arena = t.arena }
 
 abbrev pub bank_in : List ℕ → Fiber → Shared → Bank
 bank_in flash c t = record { flash = flash; globals = t.globals; arena = t.arena; base = c.base; words = c.bank }
@@ -50,15 +51,21 @@ module _ (C : FlatCode) (placed : List Placed) (flash : List ℕ) (a : Addresses
     pub op_within : IsOpWithin (temporaries p.function) (length p.function.ops) p.function.outgoing op
     pub parts : NamesParts (length C.functions) (length C.classes) op
     -- its label, and its pieces behind it; behind these is the next op's label
-    pub label : slice_get (function_pieces p) (start p.function (place_of p.places) f.place) ≡ Some (Label (3 * f.place))
-    pub stands : StandAt (function_pieces p) (start p.function (place_of p.places) f.place + 1) (op_pieces p.function (place_of p.places) f.place op)
-    pub next : start p.function (place_of p.places) (f.place + 1) ≡ start p.function (place_of p.places) f.place + 1 + length
+    pub label : slice_get (function_pieces p) (start p.function (place_of p.places) f.place)
+        ≡ Some (Label (3 * f.place))
+    pub stands : StandAt (function_pieces p) (start p.function (place_of p.places) f.place + 1)
+        (op_pieces p.function (place_of p.places) f.place op)
+    pub next : start p.function (place_of p.places) (f.place + 1)
+        ≡ start p.function (place_of p.places) f.place + 1 + length
         (op_pieces p.function (place_of p.places) f.place op)
     -- what it reads is live
     pub reads_live : (u : ℕ) → Contains (reads op) u → IsLiveAt p.function.ops u f.place
     -- what is live where it goes on, and not written by it, is live at it, and in another place than what it writes
-    pub kept_live : (u k : ℕ) → Contains (goes_on f.place op) k → IsLiveAt p.function.ops u k → writes op ≢ Some u → IsLiveAt p.function.ops u f.place
-    pub apart : (to u k : ℕ) → writes op ≡ Some to → Contains (goes_on f.place op) k → IsLiveAt p.function.ops u k → to < temporaries p.function
+    pub kept_live : (u k : ℕ) → Contains (goes_on f.place op) k → IsLiveAt p.function.ops u k → writes op ≢ Some u
+        → IsLiveAt p.function.ops u f.place
+    pub apart : (to u k : ℕ) → writes op ≡ Some to → Contains (goes_on f.place op) k → IsLiveAt p.function.ops u k
+        → to < temporaries p.function
         → u < temporaries p.function → u ≢ to → place_of p.places u ≢ place_of p.places to
     -- a result that nobody reads isn't live where it goes on
-    pub unread : (to k : ℕ) → is_unread p.function f.place ≡ true → writes op ≡ Some to → Contains (goes_on f.place op) k → IsLiveAt p.function.ops to k → ⊥
+    pub unread : (to k : ℕ) → is_unread p.function f.place ≡ true → writes op ≡ Some to
+        → Contains (goes_on f.place op) k → IsLiveAt p.function.ops to k → ⊥

@@ -38,7 +38,8 @@ IsEven a = (a % 2 ≡ 0) × (a + 1 < 2 ^ 32)
 -- The pieces stand at these places: each does its effect, a label takes nothing, where a piece goes on the next one is entered behind it, and a
 -- label that is gone to is where it stands.
 pub record Laid (fetch : ℕ → Fetched) (flash : List ℕ) (p : Places) (pieces : List Piece) : Type 0 where
-  pub each : (i : ℕ) (x : Piece) → slice_get pieces i ≡ Some x → 0 < cost x → (s : Registers) (t : Fm) → s.pc ≡ p.at i → At flash s.sp t.0
+  pub each : (i : ℕ) (x : Piece) → slice_get pieces i ≡ Some x → 0 < cost x → (s : Registers) (t : Fm) → s.pc ≡ p.at i
+      → At flash s.sp t.0
       → Means over fetch p i x s t
   pub label : (i l : ℕ) → slice_get pieces i ≡ Some (Label l) → p.at i ≡ p.at (i + 1)
   pub next : (i : ℕ) (x : Piece) → slice_get pieces i ≡ Some x → goes_on x ≡ true → p.behind i ≡ p.at (i + 1)
@@ -50,7 +51,8 @@ pub record Laid (fetch : ℕ → Fetched) (flash : List ℕ) (p : Places) (piece
 pub data Flows (flash : List ℕ) (p : Places) : Piece → View → View → Type 0 where
   OfInstr : (x : Instr) (v v' : View) → goes_on_instr x ≡ true → Alters flash x v v' → Flows flash p (Plain x) v v'
   OfLabel : (l : ℕ) (v : View) → Flows flash p (Label l) v v
-  OfNumber : (rd n : ℕ) (v : View) → Flows flash p (Number rd n) v (record v { low = slice_set v.low rd n; flags = loaded_flags v.flags n })
+  OfNumber : (rd n : ℕ) (v : View)
+      → Flows flash p (Number rd n) v (record v { low = slice_set v.low rd n; flags = loaded_flags v.flags n })
   OfAddress : (rd : ℕ) (w : What) (v : View) → Flows flash p (Address rd w) v (with_low rd (p.word_of w) v)
 
 abbrev pub AllFlow : List ℕ → Places → List Piece → View → View → Type 0
@@ -70,8 +72,10 @@ abbrev pub store_of : View → Store
 store_of v = record { kept = slice_index v.low 4 ∷ (slice_index v.low 5 ∷ (slice_index v.low 6 ∷ (slice_index v.low 7 ∷ []))); words = v.words }
 
 -- From piece i to piece j, where what is seen goes from v to v'. Only LR may change beside.
-pub record Comes (fetch : ℕ → Fetched) (p : Places) (least most i j : ℕ) (v v' : View) (s : Registers) (b : Bank) (free : List ℕ) : Type 0 where
+pub record Comes (fetch : ℕ → Fetched) (p : Places) (least most i j : ℕ) (v v' : View) (s : Registers) (b : Bank)
+    (free : List ℕ) : Type 0 where
   pub link : ℕ
   pub long : length v'.words ≡ length b.words
-  pub reach : ComesSilently over fetch least most (registers_of v (p.at i) s) (bank_of v b, free) (registers_of v' (p.at j) (record s { lr = link }))
+  pub reach : ComesSilently over fetch least most (registers_of v (p.at i) s) (bank_of v b, free)
+      (registers_of v' (p.at j) (record s { lr = link }))
       (bank_of v' b, free)

@@ -16,7 +16,8 @@ pub record StandsIn (register word : ℕ) (before after : View) : Type 0 where
   pub others : (i : ℕ) → 4 ≤ i → i < 8 → (i ≡ register → ⊥) → slice_index after.low i ≡ slice_index before.low i
   pub words : after.words ≡ before.words
 
-pub record Leaving (fetch : ℕ → Fetched) (flash : List ℕ) (p : Places) (pieces : List Piece) (b : Bank) (free : List ℕ) (xs : List Piece) (v : View)
+pub record Leaving (fetch : ℕ → Fetched) (flash : List ℕ) (p : Places) (pieces : List Piece) (b : Bank) (free : List ℕ)
+    (xs : List Piece) (v : View)
     (register word most i : ℕ) (s : Registers) : Type 0 where
   pub seen : View
   pub result : StandsIn register word v seen
@@ -25,7 +26,8 @@ pub record Leaving (fetch : ℕ → Fetched) (flash : List ℕ) (p : Places) (pi
   pub comes : Comes fetch p 1 most i (i + length xs) v seen s b free
 
 -- wherever they stand, and whatever is in the scratch registers
-abbrev pub AllLeave : (ℕ → Fetched) → List ℕ → Places → List Piece → Bank → List ℕ → List Piece → View → (register word most : ℕ) → Type 0
+abbrev pub AllLeave : (ℕ → Fetched) → List ℕ → Places → List Piece → Bank → List ℕ → List Piece → View
+    → (register word most : ℕ) → Type 0
 AllLeave fetch flash p pieces b free xs v register word most =
     (i : ℕ) (s : Registers) → StandAt pieces i xs → At flash s.sp b → length v.words ≡ length b.words
     → Leaving fetch flash p pieces b free xs v register word most i s

@@ -24,7 +24,8 @@ use Rattle.emit_simulation.specs.Ties.{ties, IsAt, IsShared}
 module _ (C : FlatCode) (placed : List Placed) (flash : List ℕ) (a : Addresses) (texts : List ByteList) where
   -- From a fiber and what all share, at most so many instructions, of which the last makes this turn; some more may trail behind it. The ties
   -- are seen from what was shared before.
-  pub record Makes (bound used : ℕ) (h : FlatHeap) (before : Shared) (turn : Turn FlatActivity FlatHeap) (c : Fiber) (t : Shared) : Type 0 where
+  pub record Makes (bound used : ℕ) (h : FlatHeap) (before : Shared) (turn : Turn FlatActivity FlatHeap) (c : Fiber)
+      (t : Shared) : Type 0 where
     pub steps : ℕ
     pub cost : ℕ
     pub last : Fiber
@@ -37,9 +38,12 @@ module _ (C : FlatCode) (placed : List Placed) (flash : List ℕ) (a : Addresses
 
   -- a fiber that stands at an op makes its turn, unless that is a fault
   abbrev pub MakesOp : Op → Type 0
-  MakesOp op = (p : Placed) (f : FlatFrame) (callers : List FlatFrame) (base : ℕ) (c : Fiber) (used : ℕ) (h : FlatHeap) (t : Shared)
+  MakesOp op =
+      (p : Placed) (f : FlatFrame) (callers : List FlatFrame) (base : ℕ) (c : Fiber) (used : ℕ) (h : FlatHeap)
+      (t : Shared)
       → slice_get p.function.ops f.place ≡ Some op
-      → IsAt C placed flash a p (λ u. IsLiveAt p.function.ops u f.place) f callers base (start p.function (place_of p.places) f.place) c
+      → IsAt C placed flash a p (λ u. IsLiveAt p.function.ops u f.place) f callers base
+      (start p.function (place_of p.places) f.place) c
       → IsShared C placed flash a used h t
       → NoFault (act C texts h f callers base op)
       → Makes (op_instructions op) used h t (act C texts h f callers base op) c t

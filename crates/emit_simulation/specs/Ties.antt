@@ -64,7 +64,9 @@ frames_of (f ∷ fs) = frame_of f ∷ frames_of fs
 -- r4 to r7 and the bank of a fiber
 abbrev pub store_in : Fiber → Store
 store_in c = record {
-  kept = slice_index c.registers.r 4 ∷ (slice_index c.registers.r 5 ∷ (slice_index c.registers.r 6 ∷ (slice_index c.registers.r 7 ∷ [])));
+  kept =
+      slice_index c.registers.r
+      4 ∷ (slice_index c.registers.r 5 ∷ (slice_index c.registers.r 6 ∷ (slice_index c.registers.r 7 ∷ [])));
   words = c.bank;
 }
 
@@ -93,7 +95,8 @@ module _ (C : FlatCode) (placed : List Placed) (flash : List ℕ) (a : Addresses
   -- the return address to a frame that waits for its call, and behind the last one the flash's
   abbrev pub return_in : Option Placed → ℕ → ℕ → ℕ
   return_in None f k = 0
-  return_in (Some p) f k = (spots f p).behind (start p.function (place_of p.places) k + 1 + calling_of (slice_get p.function.ops k)) + 1
+  return_in (Some p) f k =
+      (spots f p).behind (start p.function (place_of p.places) k + 1 + calling_of (slice_get p.function.ops k)) + 1
 
   abbrev pub return_to : List (Frame Value) → ℕ
   return_to [] = return_of flash
@@ -101,9 +104,11 @@ module _ (C : FlatCode) (placed : List Placed) (flash : List ℕ) (a : Addresses
 
   -- A fiber stands at piece i of a function: what is needed of the running frame is in its places, the frames that wait are above it, and SP and base are
   -- at the depths of the activity and of its beginning.
-  pub record IsAt (p : Placed) (need : ℕ → Type 0) (f : FlatFrame) (callers : List FlatFrame) (base i : ℕ) (c : Fiber) : Type 0 where
+  pub record IsAt (p : Placed) (need : ℕ → Type 0) (f : FlatFrame) (callers : List FlatFrame) (base i : ℕ)
+      (c : Fiber) : Type 0 where
     pub there : slice_get placed f.function ≡ Some p
-    pub running : Running Means C.functions place_in return_to p.function (place_of p.places) need f.temps (frames_of callers) (store_in c)
+    pub running : Running Means C.functions place_in return_to p.function (place_of p.places) need f.temps
+        (frames_of callers) (store_in c)
     pub registers : length c.registers.r ≡ 13
     pub pc : c.registers.pc ≡ (spots f.function p).at i
     pub base_is : c.base + 4 * base ≡ stack_end
@@ -112,10 +117,12 @@ module _ (C : FlatCode) (placed : List Placed) (flash : List ℕ) (a : Addresses
 
   -- An activity begins as its fiber does; or it stands at an op, with what is live there.
   pub data IsTied : FlatActivity → Fiber → Type 0 where
-    AtEntry : (f base : ℕ) (c : Fiber) → f < length C.functions → base ≤ depth_limit → c ≡ begins_on flash (stack_end - 4 * base) (a.function f + 1)
+    AtEntry : (f base : ℕ) (c : Fiber) → f < length C.functions → base ≤ depth_limit
+        → c ≡ begins_on flash (stack_end - 4 * base) (a.function f + 1)
         → IsTied (Enters f base) c
     AtOp : (p : Placed) (f : FlatFrame) (callers : List FlatFrame) (base : ℕ) (c : Fiber)
-        → IsAt p (λ t. IsLiveAt p.function.ops t f.place) f callers base (start p.function (place_of p.places) f.place) c → IsTied (Stands f callers base) c
+        → IsAt p (λ t. IsLiveAt p.function.ops t f.place) f callers base
+        (start p.function (place_of p.places) f.place) c → IsTied (Stands f callers base) c
 
   -- the used words, and globals and arena, show the heap
   abbrev pub IsShared : ℕ → FlatHeap → Shared → Type 0

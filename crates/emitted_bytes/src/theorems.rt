@@ -21,10 +21,13 @@ use thumb_layout::layout_settles;
 pub fn laid_code_keeps_its_weight()
     ensures ops { Costs full_bytes bytes_of_weight bytes_of_room }
     ensures entries { EntryCosts full_bytes bytes_of_weight entry_bytes }
-    ensures routines { (P : TypedProgram) (f : ℕ) (r : TypedRoutine) (p : Placed) → IsReady p → p.function ≡ lowered_routine P f r
-        → length (laid (function_pieces p)).bytes + bytes_of_text * cost texts_named p.function.ops ≤ bytes_of_weight * weight r }
+    ensures routines { (P : TypedProgram) (f : ℕ) (r : TypedRoutine) (p : Placed) → IsReady p
+        → p.function ≡ lowered_routine P f r
+        → length (laid (function_pieces p)).bytes + bytes_of_text * cost texts_named p.function.ops
+        ≤ bytes_of_weight * weight r }
     ensures repeating { (f : ℕ) (p : Placed) → IsReady p → p.function ≡ repeating_function f
-        → length (laid (function_pieces p)).bytes + bytes_of_text * cost texts_named p.function.ops ≤ bytes_of_weight * repeating_weight }
+        → length (laid (function_pieces p)).bytes + bytes_of_text * cost texts_named p.function.ops
+        ≤ bytes_of_weight * repeating_weight }
 {
     code_costs_at_most_its_weight();
     pieces_keep_their_bounds();

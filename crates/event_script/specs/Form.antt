@@ -11,7 +11,8 @@ use Rattle.event_script.specs.declared.script.Script.{Script}
 
 -- `button` is "A", which is 1, or "B", which is 2
 abbrev pub button_of : Data → Option ℕ
-button_of d = if says (codes "button") (codes "A") d then Some 1 else if says (codes "button") (codes "B") d then Some 2 else None
+button_of d =
+    if says (codes "button") (codes "A") d then Some 1 else if says (codes "button") (codes "B") d then Some 2 else None
 
 abbrev pub raised_with : Option ℕ → Option ℕ → Option Act
 raised_with (Some source) (Some value) = Some (Raise (record { source = pos source; value = pos value }))
@@ -23,8 +24,10 @@ abbrev pub act_of : Data → Option Act
 act_of d =
     if says (codes "do") (codes "down") d then only_if (has_members 3 d) (option_map Down (button_of d))
     else if says (codes "do") (codes "up") d then only_if (has_members 3 d) (option_map Up (button_of d))
-    else if says (codes "do") (codes "raise") d then only_if (has_members 4 d) (raised_with (whole greatest_number (codes "source") d) (whole greatest_number (codes "value") d))
-    else if says (codes "do") (codes "unplug") d then only_if (has_members 3 d) (option_map Unplug (whole last_port (codes "port") d))
+    else if says (codes "do") (codes "raise") d then only_if (has_members 4 d)
+    (raised_with (whole greatest_number (codes "source") d) (whole greatest_number (codes "value") d))
+    else if says (codes "do") (codes "unplug") d
+    then only_if (has_members 3 d) (option_map Unplug (whole last_port (codes "port") d))
     else None
 
 abbrev pub entry_with : Option ℕ → Option Act → Option Entry
@@ -47,4 +50,5 @@ script_with None entries = None
 
 -- the members are `end`, in milliseconds up to the latest end, and `events`, a list of entries
 abbrev pub script_of : Data → Option Script
-script_of d = only_if (has_members 2 d) (script_with (whole end_limit (codes "end") d) (list_of entry_of (codes "events") d))
+script_of d =
+    only_if (has_members 2 d) (script_with (whole end_limit (codes "end") d) (list_of entry_of (codes "events") d))

@@ -15,7 +15,9 @@ IsSound s = IsSoundScript s.end (world_entries s.entries)
 abbrev pub HasSmallNumbers : Act → Type 0
 HasSmallNumbers (Down button) = Unit {0}
 HasSmallNumbers (Up button) = Unit {0}
-HasSmallNumbers (Raise event) = (pos 0 ≤ℤ event.source) × (event.source ≤ℤ pos greatest_number) × (pos 0 ≤ℤ event.value) × (event.value ≤ℤ pos greatest_number)
+HasSmallNumbers (Raise event) =
+    (pos 0 ≤ℤ event.source) × (event.source ≤ℤ pos greatest_number) × (pos 0 ≤ℤ event.value)
+    × (event.value ≤ℤ pos greatest_number)
 HasSmallNumbers (Unplug port) = Unit {0}
 
 -- what the form of a file sets, and soundness doesn't ask

@@ -31,7 +31,8 @@ fn button_of(tree: &Value) -> Option<u8>
 
 /// The event of `source` and `value`.
 fn event_of(tree: &Value) -> Option<Act>
-    ensures { result ≡ raised_with (whole greatest_number (codes "source") (view tree.now)) (whole greatest_number (codes "value") (view tree.now)) }
+    ensures { result ≡ raised_with (whole greatest_number (codes "source") (view tree.now))
+        (whole greatest_number (codes "value") (view tree.now)) }
 {
     let source = whole(tree, "source", GREATEST_NUMBER)?;
     let value = whole(tree, "value", GREATEST_NUMBER)?;

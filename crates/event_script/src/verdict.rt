@@ -54,11 +54,16 @@ pub fn read_script(alloc: Global, bytes: &[u8]) -> Result<Script, ScriptRefused>
     ensures ok { IfOk result (λ s. Tells bytes.now (Ok s)) }
     ensures sound { IfOk result IsSound }
     ensures within_form { IfOk result IsWithinForm }
-    ensures not_json { result ≡ Err (ScriptRefused.Script ScriptCode.NotJson) → (tree : Data) → ¬ IsTree bytes.now tree }
-    ensures not_script { result ≡ Err (ScriptRefused.Script ScriptCode.NotScript) → Tells bytes.now (Err ScriptCode.NotScript) }
-    ensures out_of_order { result ≡ Err (ScriptRefused.Script ScriptCode.OutOfOrder) → Tells bytes.now (Err ScriptCode.OutOfOrder) }
-    ensures past_end { result ≡ Err (ScriptRefused.Script ScriptCode.PastEnd) → Tells bytes.now (Err ScriptCode.PastEnd) }
-    ensures too_many { result ≡ Err (ScriptRefused.Script ScriptCode.TooMany) → Tells bytes.now (Err ScriptCode.TooMany) }
+    ensures not_json { result ≡ Err (ScriptRefused.Script ScriptCode.NotJson) → (tree : Data)
+        → ¬ IsTree bytes.now tree }
+    ensures not_script { result ≡ Err (ScriptRefused.Script ScriptCode.NotScript)
+        → Tells bytes.now (Err ScriptCode.NotScript) }
+    ensures out_of_order { result ≡ Err (ScriptRefused.Script ScriptCode.OutOfOrder)
+        → Tells bytes.now (Err ScriptCode.OutOfOrder) }
+    ensures past_end { result ≡ Err (ScriptRefused.Script ScriptCode.PastEnd)
+        → Tells bytes.now (Err ScriptCode.PastEnd) }
+    ensures too_many { result ≡ Err (ScriptRefused.Script ScriptCode.TooMany)
+        → Tells bytes.now (Err ScriptCode.TooMany) }
 {
     let tree = match tree_of(alloc, bytes) {
         Ok(tree) => tree,

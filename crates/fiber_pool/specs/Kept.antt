@@ -38,4 +38,5 @@ abbrev pub with_words : Slab Kept → ℕ → List ℕ → Slab Kept
 with_words pool key words = with_value pool key (record (kept_at pool key) { words = words })
 
 abbrev pub with_kept : Slab Kept → ℕ → Registers → ℕ → Slab Kept
-with_kept pool key registers base = with_value pool key (record (kept_at pool key) { registers = registers; base = base })
+with_kept pool key registers base =
+    with_value pool key (record (kept_at pool key) { registers = registers; base = base })

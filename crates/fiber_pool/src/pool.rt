@@ -79,7 +79,8 @@ impl Pool {
     pub fn save(&mut self, key: usize, registers: Registers, base: u32, words: &[u32])
         requires live { ContainsKey self.old key }
         requires most { length words.now ≤ record_limit }
-        ensures saved { (k : Kept) → get self.old key ≡ Some k → Updates self.old self.new key (Some (record k { registers = registers; base = base; words = words.now })) }
+        ensures saved { (k : Kept) → get self.old key ≡ Some k → Updates self.old self.new key
+            (Some (record k { registers = registers; base = base; words = words.now })) }
         ensures live { slab_len self.new ≡ slab_len self.old }
     {
         match self.slab.get_mut(key) {
@@ -163,7 +164,8 @@ impl Pool {
     pub fn keep(&mut self, key: usize, registers: Registers, base: u32)
         requires { ContainsKey self.old key }
         ensures kept { self.new ≡ with_kept self.old key registers base }
-        ensures updates { Updates self.old self.new key (Some (record (kept_at self.old key) { registers = registers; base = base })) }
+        ensures updates { Updates self.old self.new key
+            (Some (record (kept_at self.old key) { registers = registers; base = base })) }
         ensures live { slab_len self.new ≡ slab_len self.old }
     {
         match self.slab.get_mut(key) {
@@ -186,7 +188,8 @@ impl Pool {
     /// Keeps an event value; all else stays.
     pub fn set_value(&mut self, key: usize, value: i32)
         requires { ContainsKey self.old key }
-        ensures set { (k : Kept) → get self.old key ≡ Some k → Updates self.old self.new key (Some (record k { value = value })) }
+        ensures set { (k : Kept) → get self.old key ≡ Some k
+            → Updates self.old self.new key (Some (record k { value = value })) }
         ensures live { slab_len self.new ≡ slab_len self.old }
     {
         match self.slab.get_mut(key) {
@@ -209,7 +212,8 @@ impl Pool {
     /// Keeps a listener's number, or that it is no handler's record; all else stays.
     pub fn set_listener(&mut self, key: usize, listener: Option<u32>)
         requires { ContainsKey self.old key }
-        ensures set { (k : Kept) → get self.old key ≡ Some k → Updates self.old self.new key (Some (record k { listener = listener })) }
+        ensures set { (k : Kept) → get self.old key ≡ Some k
+            → Updates self.old self.new key (Some (record k { listener = listener })) }
         ensures live { slab_len self.new ≡ slab_len self.old }
     {
         match self.slab.get_mut(key) {

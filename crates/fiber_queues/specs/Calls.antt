@@ -32,7 +32,8 @@ module _ {Y : Type 0} where
 
   -- all waiters that hear the event become ready, in the order in which they began to wait
   abbrev pub all_woken : Event → ListsOf Y → ListsOf Y
-  all_woken event q = record q { ready = q.ready ++ chosen (hears event) q.waiters; waiters = left (hears event) q.waiters }
+  all_woken event q =
+      record q { ready = q.ready ++ chosen (hears event) q.waiters; waiters = left (hears event) q.waiters }
 
   abbrev pub called : Call Y → ListsOf Y → ListsOf Y
   called (Ready who) q = record q { ready = q.ready ++ who ∷ [] }

@@ -14,4 +14,5 @@ blocked_as a self = record a { self = self; seated = true; suspended = false }
 
 -- all waiters that hear an event become ready, with its value
 abbrev pub woken_by : {A : Type 0} → Event → ListsOf (Activity A) → ListsOf (Activity A)
-woken_by e q = record q { ready = q.ready ++ map (woken e.value) (chosen (hears e) q.waiters); waiters = left (hears e) q.waiters }
+woken_by e q =
+    record q { ready = q.ready ++ map (woken e.value) (chosen (hears e) q.waiters); waiters = left (hears e) q.waiters }

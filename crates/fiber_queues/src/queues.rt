@@ -29,7 +29,8 @@ impl Model for Queues {
 
     ghost view = { λ q. record { ready = q.ready.items; sleepers = q.sleepers.items; waiters = q.waiters.items } };
 
-    ghost invariant = { λ q. HasRoom (vec_capacity q.ready) (vec_capacity q.sleepers) (vec_capacity q.waiters) (vec_len q.ready + vec_len q.sleepers + vec_len q.waiters) };
+    ghost invariant = { λ q. HasRoom (vec_capacity q.ready) (vec_capacity q.sleepers) (vec_capacity q.waiters)
+        (vec_len q.ready + vec_len q.sleepers + vec_len q.waiters) };
 }
 
 /// An empty list with room for 24.
@@ -139,7 +140,8 @@ impl Queues {
         ensures first { result ≡ first_chosen (hears event) self.old.waiters }
         ensures none { (result ≡ None) ↔ (chosen (hears event) self.old.waiters ≡ []) }
         ensures woken { self.new ≡ waiter_woken event self.old }
-        ensures others { chosen (hears event) self.old.waiters ≡ option_to_list result ++ chosen (hears event) self.new.waiters }
+        ensures others { chosen (hears event) self.old.waiters
+            ≡ option_to_list result ++ chosen (hears event) self.new.waiters }
         ensures left { left (hears event) self.new.waiters ≡ left (hears event) self.old.waiters }
     {
         match first_hearing(self.waiters.as_slice(), event) {

@@ -21,4 +21,5 @@ pub record Taken (old new : State) : Type 0 where
   pub key : ℕ
   pub kept : Kept
   pub next : RunsNext key kept old new
-  pub machine : new.machine ≡ record { registers = kept.registers; memory = record old.machine.memory { base = kept.base } }
+  pub machine : new.machine
+      ≡ record { registers = kept.registers; memory = record old.machine.memory { base = kept.base } }

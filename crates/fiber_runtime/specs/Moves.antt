@@ -51,7 +51,8 @@ pub record Put (k : Kept) (old new : List ℕ) : Type 0 where
 -- So does all that is kept in the machine.
 pub record Holds (k : Kept) (old new : Machine) : Type 0 where
   pub put : Put k old.memory.stack new.memory.stack
-  pub rest : new ≡ record { registers = k.registers; memory = record old.memory { base = k.base; stack = new.memory.stack } }
+  pub rest : new
+      ≡ record { registers = k.registers; memory = record old.memory { base = k.base; stack = new.memory.stack } }
 
 abbrev pub turning_of : ℕ → Kept → Turning
 turning_of key k = record { key = Some key; value = k.value; listener = k.listener }
@@ -88,7 +89,8 @@ pub record IsIdle (machine : Machine) (s : State) : Type 0 where
 -- Main alone has a record, and is ready.
 pub record HasMain (machine : Machine) (s : State) : Type 0 where
   pub key : ℕ
-  pub main : get s.pool key ≡ Some (fresh machine.memory.flash (base_of machine.memory.flash) (main_of machine.memory.flash))
+  pub main : get s.pool key
+      ≡ Some (fresh machine.memory.flash (base_of machine.memory.flash) (main_of machine.memory.flash))
   pub others : (other : ℕ) → other ≢ key → get s.pool other ≡ None
   pub live : slab_len s.pool ≡ 1
   pub rest : s ≡ record { machine = machine; running = None; raisers = []; pool = s.pool; lists = record no_lists { ready = key ∷ [] } }
@@ -109,7 +111,8 @@ pub record Ended (key : ℕ) (old new : State) : Type 0 where
 
 -- A fiber without a record begins; the stack region stays.
 abbrev pub machine_started : ℕ → ℕ → Machine → Machine
-machine_started entry base m = record { registers = begun base (return_of m.memory.flash) entry; memory = record m.memory { base = base } }
+machine_started entry base m =
+    record { registers = begun base (return_of m.memory.flash) entry; memory = record m.memory { base = base } }
 
 abbrev pub started : ℕ → ℕ → Turning → State → State
 started entry base t s = record s { machine = machine_started entry base s.machine; running = Some t }
@@ -137,7 +140,8 @@ pub record Reinstated (old new : State) : Type 0 where
 
 -- The waiters who hear the event become ready, and its value is theirs.
 pub record Woken (e : Event) (old new : State) : Type 0 where
-  pub changed : (key : ℕ) (k : Kept) → get old.pool key ≡ Some k → 1 ≤ how_often key (chosen (hears e) old.lists.waiters) → get new.pool key ≡ Some (record k { value = e.value })
+  pub changed : (key : ℕ) (k : Kept) → get old.pool key ≡ Some k
+      → 1 ≤ how_often key (chosen (hears e) old.lists.waiters) → get new.pool key ≡ Some (record k { value = e.value })
   pub others : (key : ℕ) → how_often key (chosen (hears e) old.lists.waiters) ≡ 0 → get new.pool key ≡ get old.pool key
   pub live : slab_len new.pool ≡ slab_len old.pool
   pub rest : new ≡ record old { pool = new.pool; lists = all_woken e old.lists }

@@ -13,6 +13,7 @@ pub record IsWaking (e : Event) (q0 q : ListsOf ℕ) (p0 p : Slab Kept) : Type 0
   pub sleepers : q.sleepers ≡ q0.sleepers
   pub rest : woken ++ chosen (hears e) q.waiters ≡ chosen (hears e) q0.waiters
   pub stay : left (hears e) q.waiters ≡ left (hears e) q0.waiters
-  pub changed : (key : ℕ) (k : Kept) → get p0 key ≡ Some k → 1 ≤ how_often key woken → get p key ≡ Some (record k { value = e.value })
+  pub changed : (key : ℕ) (k : Kept) → get p0 key ≡ Some k → 1 ≤ how_often key woken
+      → get p key ≡ Some (record k { value = e.value })
   pub others : (key : ℕ) → how_often key woken ≡ 0 → get p key ≡ get p0 key
   pub live : slab_len p ≡ slab_len p0

@@ -52,7 +52,8 @@ pub fn copy_out(machine: &Machine, pool: &mut Pool, key: usize, turning: Turning
 /// Keeps the event value and the listener.
 pub fn name(pool: &mut Pool, key: usize, turning: Turning)
     requires { ContainsKey pool.old key }
-    ensures updates { (k : Kept) → get pool.old key ≡ Some k → Updates pool.old pool.new key (Some (record k { value = turning.value; listener = turning.listener })) }
+    ensures updates { (k : Kept) → get pool.old key ≡ Some k
+        → Updates pool.old pool.new key (Some (record k { value = turning.value; listener = turning.listener })) }
     ensures live { slab_len pool.new ≡ slab_len pool.old }
 {
     pool.set_value(key, turning.value);

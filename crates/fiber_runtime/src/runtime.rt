@@ -46,9 +46,11 @@ impl Model for Runtime {
 
     ghost Value = { State };
 
-    ghost view = { λ r. record { machine = r.machine; running = r.running; raisers = r.raisers; pool = r.pool; lists = r.queues } };
+    ghost view = { λ r.
+        record { machine = r.machine; running = r.running; raisers = r.raisers; pool = r.pool; lists = r.queues } };
 
-    ghost invariant = { λ r. IsSound (record { machine = r.machine; running = r.running; raisers = r.raisers; pool = r.pool; lists = r.queues }) };
+    ghost invariant = { λ r. IsSound
+        (record { machine = r.machine; running = r.running; raisers = r.raisers; pool = r.pool; lists = r.queues }) };
 }
 
 /// 24 seats are taken.
@@ -115,7 +117,8 @@ impl Runtime {
         requires keyed { IfSome self.old.running (λ t. IsSome t.key) }
         requires inside { IsInside self.old.machine.registers.sp self.old.machine.memory.base }
         requires early { now ≤ end_limit }
-        ensures { (key : ℕ) (t : Turning) → self.old.running ≡ Some t → t.key ≡ Some key → Blocked key t why now self.old self.new }
+        ensures { (key : ℕ) (t : Turning) → self.old.running ≡ Some t → t.key ≡ Some key
+            → Blocked key t why now self.old self.new }
     {
         match self.running {
             Some(turning) => match turning.key {
@@ -158,7 +161,8 @@ impl Runtime {
     pub fn size(&mut self, key: usize, words: usize)
         requires runs { running_key self.old.running ≡ Some key }
         requires most { words ≤ record_limit }
-        ensures sized { self.new ≡ record self.old { pool = with_words self.old.pool key (sized words (kept_at self.old.pool key).words) } }
+        ensures sized { self.new
+            ≡ record self.old { pool = with_words self.old.pool key (sized words (kept_at self.old.pool key).words) } }
         ensures live { ContainsKey self.old.pool key }
     {
         self.pool.size(key, words);
@@ -212,8 +216,10 @@ impl Runtime {
         requires keyed { IfSome self.old.running (λ t. IsSome t.key) }
         requires inside { IsInside self.old.machine.registers.sp self.old.machine.memory.base }
         requires early { now ≤ end_limit }
-        requires sized { IfSome (running_key self.old.running) (λ key. self.old.machine.registers.sp + 4 * length (kept_at self.old.pool key).words ≡ self.old.machine.memory.base) }
-        ensures { (key : ℕ) (t : Turning) → self.old.running ≡ Some t → t.key ≡ Some key → Parked key t why now self.old self.new }
+        requires sized { IfSome (running_key self.old.running) (λ key. self.old.machine.registers.sp
+            + 4 * length (kept_at self.old.pool key).words ≡ self.old.machine.memory.base) }
+        ensures { (key : ℕ) (t : Turning) → self.old.running ≡ Some t → t.key ≡ Some key
+            → Parked key t why now self.old self.new }
     {
         match self.running {
             Some(turning) => match turning.key {
@@ -293,7 +299,8 @@ impl Runtime {
     /// and its listener.
     pub fn restart(&mut self, entry: u32, value: i32)
         requires { IsSome self.old.running }
-        ensures { (t : Turning) → self.old.running ≡ Some t → self.new ≡ restarted entry (record t { value = value }) self.old }
+        ensures { (t : Turning) → self.old.running ≡ Some t
+            → self.new ≡ restarted entry (record t { value = value }) self.old }
     {
         let registers = begun(&self.machine, entry, self.machine.base());
         self.machine.set_registers(registers);
@@ -438,7 +445,8 @@ impl Runtime {
     /// Sets the running fiber's event value.
     pub fn set_event_value(&mut self, value: i32)
         requires { IsSome self.old.running }
-        ensures { (t : Turning) → self.old.running ≡ Some t → self.new ≡ record self.old { running = Some (record t { value = value }) } }
+        ensures { (t : Turning) → self.old.running ≡ Some t
+            → self.new ≡ record self.old { running = Some (record t { value = value }) } }
     {
         match self.running {
             Some(turning) => {
@@ -466,7 +474,8 @@ impl Runtime {
     /// Says that the running fiber is a handler of this listener.
     pub fn set_listener(&mut self, listener: u32)
         requires { IsSome self.old.running }
-        ensures { (t : Turning) → self.old.running ≡ Some t → self.new ≡ record self.old { running = Some (record t { listener = Some listener }) } }
+        ensures { (t : Turning) → self.old.running ≡ Some t
+            → self.new ≡ record self.old { running = Some (record t { listener = Some listener }) } }
     {
         match self.running {
             Some(turning) => {

@@ -14,8 +14,11 @@ use fiber_queues::Queues;
 pub fn wake(queues: &mut Queues, pool: &mut Pool, event: Event)
     requires { (key : ℕ) → 1 ≤ how_often key (chosen (hears event) queues.old.waiters) → ContainsKey pool.old key }
     ensures lists { queues.new ≡ all_woken event queues.old }
-    ensures changed { (key : ℕ) (k : Kept) → get pool.old key ≡ Some k → 1 ≤ how_often key (chosen (hears event) queues.old.waiters) → get pool.new key ≡ Some (record k { value = event.value }) }
-    ensures others { (key : ℕ) → how_often key (chosen (hears event) queues.old.waiters) ≡ 0 → get pool.new key ≡ get pool.old key }
+    ensures changed { (key : ℕ) (k : Kept) → get pool.old key ≡ Some k
+        → 1 ≤ how_often key (chosen (hears event) queues.old.waiters)
+        → get pool.new key ≡ Some (record k { value = event.value }) }
+    ensures others { (key : ℕ) → how_often key (chosen (hears event) queues.old.waiters) ≡ 0
+        → get pool.new key ≡ get pool.old key }
     ensures live { slab_len pool.new ≡ slab_len pool.old }
 {
     while let Some(key) = queues.wake_waiter(event) {

@@ -8,11 +8,13 @@ use Rattle.flat_ir.specs.Ops.{reads, writes, goes_on}
 -- doesn't write it and it is live where the path goes on.
 pub data IsLiveAt (ops : List Op) (t : ℕ) : ℕ → Type 0 where
   is_read : (at : ℕ) (op : Op) → slice_get ops at ≡ Some op → Contains (reads op) t → IsLiveAt ops t at
-  is_kept : (at next : ℕ) (op : Op) → slice_get ops at ≡ Some op → (writes op ≡ Some t → ⊥) → Contains (goes_on at op) next → IsLiveAt ops t next → IsLiveAt ops t at
+  is_kept : (at next : ℕ) (op : Op) → slice_get ops at ≡ Some op → (writes op ≡ Some t → ⊥)
+      → Contains (goes_on at op) next → IsLiveAt ops t next → IsLiveAt ops t at
 
 -- It is live after an op where it is live at a place at which a run may go on.
 abbrev pub IsLiveAfter : List Op → ℕ → ℕ → Type 0
-IsLiveAfter ops t at = (op : Op) × (next : ℕ) × (slice_get ops at ≡ Some op) × Contains (goes_on at op) next × IsLiveAt ops t next
+IsLiveAfter ops t at =
+    (op : Op) × (next : ℕ) × (slice_get ops at ≡ Some op) × Contains (goes_on at op) next × IsLiveAt ops t next
 
 -- nothing but a parameter is live where a function begins
 abbrev pub OnlyParametersAreLive : Function → Type 0

@@ -144,7 +144,8 @@ fn is_within(op: &Op, function: Bounds) -> bool
 }
 
 fn are_within(ops: &[Op], function: Bounds) -> bool
-    ensures { IsTrue result ↔ AllByRecursion (IsOpWithin function.temporaries function.places function.outgoing) ops.now }
+    ensures { IsTrue result
+        ↔ AllByRecursion (IsOpWithin function.temporaries function.places function.outgoing) ops.now }
 {
     for op in ops {
         if !is_within(op, function) {

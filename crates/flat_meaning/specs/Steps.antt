@@ -41,11 +41,13 @@ module _ (C : FlatCode) (texts : List ByteList) where
     -- a frame begins above those that wait for it; past the greatest depth it is a panic
     abbrev pub entering : FlatFrame → FlatTurn
     entering frame =
-        if nat_lt depth_limit (base + depth_of C waiting + words C frame.function) then Panics depth_panic else Goes (Stands frame waiting base) h
+        if nat_lt depth_limit (base + depth_of C waiting + words C frame.function) then Panics depth_panic
+        else Goes (Stands frame waiting base) h
 
     -- a call, with as many arguments as the function has parameters
     abbrev pub called : ℕ → List Value → FlatTurn
-    called f args = after (there (entry C.functions f)) (λ r. after (exactly r.params args) (λ _. entering (entered f args)))
+    called f args =
+        after (there (entry C.functions f)) (λ r. after (exactly r.params args) (λ _. entering (entered f args)))
 
     -- the end of a function: its value goes to the frame that waits for it; behind the last one the activity ends
     abbrev pub ended : Value → List FlatFrame → FlatTurn
@@ -92,7 +94,8 @@ module _ (C : FlatCode) (texts : List ByteList) where
     -- the method in a slot of the first argument's class
     abbrev pub method : ℕ → List Value → Outcome ℕ
     method slot args =
-        then_gives (first args) (λ o. then_gives (object_at h o) (λ c. then_gives (there (entry C.classes c.0)) (λ class. there (entry class.slots slot))))
+        then_gives (first args) (λ o. then_gives (object_at h o)
+        (λ c. then_gives (there (entry C.classes c.0)) (λ class. there (entry class.slots slot))))
 
     -- one op
     abbrev pub act : Op → FlatTurn
@@ -112,11 +115,13 @@ module _ (C : FlatCode) (texts : List ByteList) where
     act (MakeObject to class) = after (there (entry C.classes class)) (λ c. makes to class c.words)
     act (MakeArray to room) = Takes (array_words room) (λ at. (gives to (Object at), with_cell at (Items tt room []) h))
     act (Call to function args) = called h base (f ∷ callers) function (map f.temps args)
-    act (CallSlot to slot args) = after (method slot (map f.temps args)) (λ g. called h base (f ∷ callers) g (map f.temps args))
+    act (CallSlot to slot args) =
+        after (method slot (map f.temps args)) (λ g. called h base (f ∷ callers) g (map f.temps args))
     act (HandlerOf to function) = Goes (gives to (Code function)) h
     act (Ask to service args) = asks to service (map f.temps args)
     act (Jump target) = Goes (goes_to target) h
-    act (Branch when target) = after (decided (f.temps when)) (λ b. Goes (goes_to (if b then target else f.place + 1)) h)
+    act (Branch when target) =
+        after (decided (f.temps when)) (λ b. Goes (goes_to (if b then target else f.place + 1)) h)
     act (Return from) = ended h base callers (f.temps from) callers
 
     abbrev pub act_at : Option Op → FlatTurn

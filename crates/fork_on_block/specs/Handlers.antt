@@ -13,4 +13,6 @@ base_for flash (r ∷ rs) = r.registers.sp
 
 -- without a record, with the event's value
 abbrev pub invoked : ℕ → Event → State → State
-invoked entry e s = started entry (base_for s.machine.memory.flash s.raisers) (record { key = None; value = e.value; listener = None }) s
+invoked entry e s =
+    started entry (base_for s.machine.memory.flash s.raisers)
+    (record { key = None; value = e.value; listener = None }) s

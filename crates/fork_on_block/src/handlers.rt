@@ -31,7 +31,8 @@ pub fn fork(runtime: &mut Runtime) -> Result<usize, SeatsFull>
     requires keyless { running_key runtime.old.running ≡ None }
     ensures room { IsOk result ↔ (slab_len runtime.old.pool < seat_limit) }
     ensures full { OnErr result (runtime.new ≡ runtime.old) }
-    ensures ok { IfOk result (λ key. (t : Turning) → runtime.old.running ≡ Some t → Adopted key t runtime.old runtime.new) }
+    ensures ok { IfOk result
+        (λ key. (t : Turning) → runtime.old.running ≡ Some t → Adopted key t runtime.old runtime.new) }
     ensures machine { OnOk result (runtime.new.machine ≡ runtime.old.machine) }
 {
     runtime.adopt()
@@ -50,7 +51,8 @@ pub fn leave(runtime: &mut Runtime)
 /// it stays its listener's.
 pub fn again(runtime: &mut Runtime, entry: u32, event: Event)
     requires { IsSome runtime.old.running }
-    ensures after { (t : Turning) → runtime.old.running ≡ Some t → runtime.new ≡ restarted entry (record t { value = event.value }) runtime.old }
+    ensures after { (t : Turning) → runtime.old.running ≡ Some t
+        → runtime.new ≡ restarted entry (record t { value = event.value }) runtime.old }
     ensures records { runtime.new.pool ≡ runtime.old.pool }
 {
     runtime.restart(entry, event.value);

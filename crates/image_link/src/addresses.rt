@@ -137,7 +137,8 @@ pub fn place_parts(
     requires marks { (i : ℕ) → i < length texts.now → slice_index_or marks.now i false ≡ is_named laid.now i }
     ensures addresses { IfOk result (λ found. as_addresses found ≡ addresses laid.now classes.now texts.now) }
     ensures fits { OnOk result (image_end laid.now classes.now texts.now ≤ flash_end) }
-    ensures past { IfErr result (λ why. why ≡ LinkRefused.PastFlash → flash_end < image_end laid.now classes.now texts.now) }
+    ensures past { IfErr result
+        (λ why. why ≡ LinkRefused.PastFlash → flash_end < image_end laid.now classes.now texts.now) }
 {
     let mut end = HEAD;
     let functions = place(alloc, &code_lengths(alloc, laid)?, &mut end)?;

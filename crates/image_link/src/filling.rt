@@ -149,7 +149,8 @@ pub fn filled(
     requires at { at % 4 ≡ 0 }
     requires low { at + length laid.now.bytes < 2 ^ 20 }
     requires fixes { AllByRecursion (IsFixOf (length laid.now.bytes)) laid.now.fixes }
-    ensures { IfOk result (λ bytes. bytes.items ≡ filled (as_addresses addresses.now) at laid.now.fixes laid.now.bytes) }
+    ensures { IfOk result
+        (λ bytes. bytes.items ≡ filled (as_addresses addresses.now) at laid.now.fixes laid.now.bytes) }
 {
     let Ok(mut bytes) = Vec::from_slice(alloc, laid.bytes.as_slice()) else {
         return Err(NoMemory);

@@ -60,7 +60,8 @@ pub fn link(
     requires { IsLinkable laid.now code.now (length tables.now.texts) }
     ensures linked { IfOk result (λ bytes. IsLinked laid.now code.now tables.now.texts bytes.items) }
     ensures fits { IfOk result (λ bytes. length bytes.items ≤ flash_end) }
-    ensures past_flash { IfErr result (λ why. why ≡ LinkRefused.PastFlash → (image : List ℕ) × IsLinked laid.now code.now tables.now.texts image × (flash_end < length image)) }
+    ensures past_flash { IfErr result (λ why. why ≡ LinkRefused.PastFlash
+        → (image : List ℕ) × IsLinked laid.now code.now tables.now.texts image × (flash_end < length image)) }
 {
     let laid = laid.as_slice();
     let classes = code.classes.as_slice();

@@ -9,7 +9,8 @@ use thumb_layout::{Fix, Laid, What};
 
 /// Marks the text that a fix names.
 fn mark_text(marks: &mut [bool], what: What)
-    ensures marks { (i : ℕ) → i < length marks.old → slice_index_or marks.new i false ≡ (is_this_text i what || slice_index_or marks.old i false) }
+    ensures marks { (i : ℕ) → i < length marks.old
+        → slice_index_or marks.new i false ≡ (is_this_text i what || slice_index_or marks.old i false) }
 {
     if let What::Text(text) = what {
         if (text as usize) < marks.len() {
@@ -20,7 +21,8 @@ fn mark_text(marks: &mut [bool], what: What)
 
 /// Marks the texts that fixes name.
 fn mark_texts(marks: &mut [bool], fixes: &[Fix])
-    ensures marks { (i : ℕ) → i < length marks.old → slice_index_or marks.new i false ≡ (names_text i fixes.now || slice_index_or marks.old i false) }
+    ensures marks { (i : ℕ) → i < length marks.old
+        → slice_index_or marks.new i false ≡ (names_text i fixes.now || slice_index_or marks.old i false) }
 {
     for fix in fixes {
         mark_text(marks, fix.what);
@@ -43,7 +45,8 @@ fn no_marks(alloc: Global, count: usize) -> Result<Vec<bool>, NoMemory>
 /// Of each of so many texts whether laid code names it.
 pub fn named_texts(alloc: Global, laid: &[Laid], count: usize) -> Result<Vec<bool>, NoMemory>
     ensures long { IfOk result (λ marks. length marks.items ≡ count) }
-    ensures marks { IfOk result (λ marks. (i : ℕ) → i < count → slice_index_or marks.items i false ≡ is_named laid.now i) }
+    ensures marks { IfOk result
+        (λ marks. (i : ℕ) → i < count → slice_index_or marks.items i false ≡ is_named laid.now i) }
 {
     let mut marks = no_marks(alloc, count)?;
     for code in laid {

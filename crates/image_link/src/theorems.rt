@@ -19,31 +19,38 @@ ghost use Rattle.image_link.specs.Shown.{IsImaged};
 
 /// Laid code, flat code and texts are linked to one image alone.
 pub fn images_are_alike()
-    ensures { (functions : List Laid) (code : FlatCode) (texts : List ByteList) (image other : List ℕ) → IsLinked functions code texts image → IsLinked functions code texts other
+    ensures { (functions : List Laid) (code : FlatCode) (texts : List ByteList) (image other : List ℕ)
+        → IsLinked functions code texts image → IsLinked functions code texts other
         → image ≡ other }
 {}
 
 /// Whatever can be linked is linked to an image, however long that is.
 pub fn linkable_code_has_an_image()
-    ensures { (functions : List Laid) (code : FlatCode) (texts : List ByteList) → IsLinkable functions code (length texts) → (image : List ℕ) × IsLinked functions code texts image }
+    ensures { (functions : List Laid) (code : FlatCode) (texts : List ByteList)
+        → IsLinkable functions code (length texts) → (image : List ℕ) × IsLinked functions code texts image }
 {}
 
 /// The image of functions with these bodies, as they are laid, shows as flash the whole program: the words at reset, each function's code with
 /// its calls and words filled in, the division routine, the classes' tables, and each text that a body names.
 pub fn the_image_shows_its_program()
-    ensures { (C : FlatCode) (bodies : List (List Piece)) (texts : List ByteList) (image : List ℕ) (h : IsImaged C bodies texts image)
+    ensures { (C : FlatCode) (bodies : List (List Piece)) (texts : List ByteList) (image : List ℕ)
+        (h : IsImaged C bodies texts image)
         → InFlash C bodies texts image h.linked.at }
 {}
 
 /// The image of a program within the limits fits into flash, and the laid code of a function within them has no more bytes than may be laid.
 pub fn programs_within_the_limits_fit()
-    ensures image { (C : FlatCode) (bodies : List (List Piece)) (texts : List ByteList) (weights : List ℕ) (used : ℕ → Bool) (image : List ℕ) → IsLimited C bodies texts weights used
+    ensures image { (C : FlatCode) (bodies : List (List Piece)) (texts : List ByteList) (weights : List ℕ)
+        (used : ℕ → Bool) (image : List ℕ) → IsLimited C bodies texts weights used
         → IsLinked (map laid bodies) C texts image → length image ≤ flash_end }
-    ensures function { (body : List Piece) (weight : ℕ) → length (laid body).bytes ≤ bytes_of_weight * weight → weight ≤ 1200 → length (laid body).bytes ≤ 65536 }
+    ensures function { (body : List Piece) (weight : ℕ) → length (laid body).bytes ≤ bytes_of_weight * weight
+        → weight ≤ 1200 → length (laid body).bytes ≤ 65536 }
 {}
 
 /// The laid code of a well-formed program's functions can be linked, wherever their temporaries stand, where each text that it names is there.
 pub fn emitted_code_can_be_linked()
-    ensures { (C : FlatCode) (placed : List Placed) (texts : ℕ) → IsWellFormed C → map (λ p. p.function) placed ≡ C.functions
-        → AllByRecursion (NamesTextsBelow texts) C.functions → IsLinkable (map laid (map function_pieces placed)) C texts }
+    ensures { (C : FlatCode) (placed : List Placed) (texts : ℕ) → IsWellFormed C
+        → map (λ p. p.function) placed ≡ C.functions
+        → AllByRecursion (NamesTextsBelow texts) C.functions
+        → IsLinkable (map laid (map function_pieces placed)) C texts }
 {}

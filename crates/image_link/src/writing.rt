@@ -74,7 +74,8 @@ pub fn put_code(
     requires placed { ArePlaced (as_addresses addresses.now) }
     requires fixes { AllByRecursion AreFixesOf laid.now }
     requires short { AllByRecursion (λ l. length l.bytes ≤ flash_end) laid.now }
-    ensures { OnOk result (image.new.items ≡ with_parts image.old.items (code_parts (as_addresses addresses.now) 0 laid.now)) }
+    ensures { OnOk result
+        (image.new.items ≡ with_parts image.old.items (code_parts (as_addresses addresses.now) 0 laid.now)) }
 {
     for (index, code) in laid.iter().enumerate() {
         let bytes = filled(alloc, code, addresses.function(index), addresses)?;
@@ -104,7 +105,8 @@ pub fn put_classes(
     addresses: &Addresses,
 ) -> Result<(), NoMemory>
     requires { ArePlaced (as_addresses addresses.now) }
-    ensures { OnOk result (image.new.items ≡ with_parts image.old.items (class_parts (as_addresses addresses.now) classes.now)) }
+    ensures { OnOk result
+        (image.new.items ≡ with_parts image.old.items (class_parts (as_addresses addresses.now) classes.now)) }
 {
     for class in classes {
         put_part(image, &class_table(alloc, class, addresses)?)?;
@@ -130,7 +132,8 @@ pub fn put_texts(
 ) -> Result<(), NoMemory>
     requires long { length marks.now ≡ length texts.now }
     requires marks { (i : ℕ) → i < length texts.now → slice_index_or marks.now i false ≡ is_named laid.now i }
-    requires short { (i : ℕ) → i < length texts.now → is_named laid.now i ≡ true → length (slice_index_or texts.now i []) ≤ flash_end }
+    requires short { (i : ℕ) → i < length texts.now → is_named laid.now i ≡ true
+        → length (slice_index_or texts.now i []) ≤ flash_end }
     ensures { OnOk result (image.new.items ≡ with_parts image.old.items (text_parts laid.now 0 texts.now)) }
 {
     for (index, text) in texts.iter().enumerate() {

@@ -26,14 +26,16 @@ AllMay (a ∷ rest) = MayArrive a.act × AllMay rest
 
 -- After n instructions of a course, and whatever has arrived by then, the board shows a world from which the course goes on as these
 -- arrivals say that are left. The course wasn't over before.
-pub record Along (image : List ℕ) (course : List ℕ → ℕ → World Fiber Shared) (left : List Arrival) (n : ℕ) (used : List ℕ) (moves : List Move) (b : BoardState) : Type 0 where
+pub record Along (image : List ℕ) (course : List ℕ → ℕ → World Fiber Shared) (left : List Arrival) (n : ℕ)
+    (used : List ℕ) (moves : List Move) (b : BoardState) : Type 0 where
   pub at : List ℕ → World Fiber Shared
   pub shows : (rest : List ℕ) → Represents image b (at rest)
   pub free : b.plain.end ≡ None → (rest : List ℕ) → (at rest).shared.free ≡ rest
   pub met : (rest : List ℕ) → HasMet moves (at rest).board
   pub still : (rest : List ℕ) → idled (fibers image) (at rest) ≡ at rest
   pub rises : Rises n left
-  pub onward : (rest : List ℕ) (m : ℕ) → n ≤ m → run_with (fibers image) (since n left) (m - n) (at rest) ≡ course (used ++ rest) m
+  pub onward : (rest : List ℕ) (m : ℕ) → n ≤ m
+      → run_with (fibers image) (since n left) (m - n) (at rest) ≡ course (used ++ rest) m
   pub before : (rest : List ℕ) (j : ℕ) → j < n → over (course (used ++ rest) j).board ≡ false
 
 -- where the board shows a world, that world makes no idle move

@@ -24,7 +24,8 @@ world_at image script arrivals = world_with image script.end (world_entries scri
 
 -- For some list of free words, the run of an image with arrivals after the instructions executed ended so, or not yet; its transcript was taken, and
 -- the devices met what it met.
-pub record RunsToAt {B : Type 0} (account : B → Account) (image : List ℕ) (script : EventScript) (arrivals : List Arrival) (budget : ℕ) (old new : Outside B) (end : Option RunEnd) : Type 0 where
+pub record RunsToAt {B : Type 0} (account : B → Account) (image : List ℕ) (script : EventScript)
+    (arrivals : List Arrival) (budget : ℕ) (old new : Outside B) (end : Option RunEnd) : Type 0 where
   pub free : List ℕ
   pub executed : ℕ
   pub moves : List Move
@@ -35,6 +36,9 @@ pub record RunsToAt {B : Type 0} (account : B → Account) (image : List ℕ) (s
   pub devices : DevicesAfter account moves old.places new.places
 
 -- What a call that ran an image with arrivals answered: its end, or that the sink failed, where one cut of the run is where the sink and the devices stand.
-abbrev pub RunsImageAt : {B : Type 0} → (B → Account) → List ℕ → EventScript → List Arrival → ℕ → Outside B → Outside B → End → Type 0
-RunsImageAt account image script arrivals budget old new SinkFault = IsCut account (world_at image script arrivals) budget old new × Rose old.faults new.faults
-RunsImageAt account image script arrivals budget old new answer = RunsToAt account image script arrivals budget old new (end_told answer)
+abbrev pub RunsImageAt : {B : Type 0} → (B → Account) → List ℕ → EventScript → List Arrival → ℕ → Outside B → Outside B
+    → End → Type 0
+RunsImageAt account image script arrivals budget old new SinkFault =
+    IsCut account (world_at image script arrivals) budget old new × Rose old.faults new.faults
+RunsImageAt account image script arrivals budget old new answer =
+    RunsToAt account image script arrivals budget old new (end_told answer)

@@ -14,5 +14,7 @@ use Rattle.irq_arrival.specs.Along.{world_with}
 -- given, the board ran along the worlds of that run with these arrivals.
 abbrev pub RanWith : {B : Type 0} → (B → Account) → List Arrival → ℕ → OverSink B → OverSink B → End → Type 0
 RanWith {B} account arrivals budget old new answer =
-    (image : List ℕ) (script : EventScript) (places : List (Option B)) → IsMounted image script old.board.engine → FollowsMoves account [] places old.board.plugs
-    → Ran account image (world_with image script.end (world_entries script.entries) arrivals) budget (record (around old) { places = places }) new answer
+    (image : List ℕ) (script : EventScript) (places : List (Option B)) → IsMounted image script old.board.engine
+    → FollowsMoves account [] places old.board.plugs
+    → Ran account image (world_with image script.end (world_entries script.entries) arrivals) budget
+    (record (around old) { places = places }) new answer

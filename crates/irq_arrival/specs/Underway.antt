@@ -16,15 +16,18 @@ use Rattle.irq_arrival.specs.Along.{world_with, NoneBefore, AllMay, Along}
 
 -- A board that began as the first has executed n instructions, and these arrivals are left: for each image and script that it was mounted with
 -- it is in the course of that run; the sink has taken the lines of what was met, and the devices have met it.
-pub record Underway {B : Type 0} (account : B → Account) (arrivals : List Arrival) (first b : OverSink B) (left : List Arrival) (n : ℕ) : Type 0 where
+pub record Underway {B : Type 0} (account : B → Account) (arrivals : List Arrival) (first b : OverSink B)
+    (left : List Arrival) (n : ℕ) : Type 0 where
   pub moves : List Move
   pub along : (image : List ℕ) (script : EventScript) → IsMounted image script first.board.engine
-      → (used : List ℕ) × Along image (world_with image script.end (world_entries script.entries) arrivals) left n used moves (state_of b.board.engine)
+      → (used : List ℕ) × Along image
+      (world_with image script.end (world_entries script.entries) arrivals) left n used moves (state_of b.board.engine)
   pub ports : PortsMeet account moves first.board.plugs b.board.plugs
   pub written : Took first.taken b.taken (lines (seen_of moves))
 
 -- Such a board may go on: its run isn't over, nothing that is left arrives before now or at no instruction, and somebody runs as soon as a part was run.
-pub record Stands {B : Type 0} (account : B → Account) (arrivals : List Arrival) (budget : ℕ) (first b : OverSink B) (left : List Arrival) (n : ℕ) : Type 0 where
+pub record Stands {B : Type 0} (account : B → Account) (arrivals : List Arrival) (budget : ℕ) (first b : OverSink B)
+    (left : List Arrival) (n : ℕ) : Type 0 where
   pub underway : Underway account arrivals first b left n
   pub whole : IsWhole b.board.engine n
   pub counted : b.board.instructions ≡ n

@@ -31,7 +31,8 @@ fn run_up_to<D: Device, K: Sink>(
     requires going { board.old.engine.end ≡ None }
     requires early { board.old.instructions < 2 ^ 49 }
     requires onward { done ≤ to }
-    ensures parted { Parted D.account (to - done) (over_sink K.taken K.faults board.old out.old) (over_sink K.taken K.faults board.new out.new) result }
+    ensures parted { Parted D.account (to - done) (over_sink K.taken K.faults board.old out.old)
+        (over_sink K.taken K.faults board.new out.new) result }
     ensures whole { IfNone result (IsWhole board.new.engine board.new.instructions) }
     ensures settled { IfNone result (IsSettled board.new.engine) }
     ensures later { K.faults out.old ≤ K.faults out.new }
@@ -56,8 +57,10 @@ fn serve_arrivals<D: Device, K: Sink>(
     requires sound { IsSound arrivals.now }
     requires most { budget ≤ 2147483648 }
     ensures served { IfOk result (λ done. (left : List WorldArrival) × NoneBefore (budget + 1) left
-        × Stands D.account (world_arrivals arrivals.now) budget (over_sink K.taken K.faults board.old out.old) (over_sink K.taken K.faults board.new out.new) left done) }
-    ensures ended { IfErr result (RanWith D.account (world_arrivals arrivals.now) budget (over_sink K.taken K.faults board.old out.old) (over_sink K.taken K.faults board.new out.new)) }
+        × Stands D.account (world_arrivals arrivals.now) budget (over_sink K.taken K.faults board.old out.old)
+        (over_sink K.taken K.faults board.new out.new) left done) }
+    ensures ended { IfErr result (RanWith D.account (world_arrivals arrivals.now) budget
+        (over_sink K.taken K.faults board.old out.old) (over_sink K.taken K.faults board.new out.new)) }
     ensures later { K.faults out.old ≤ K.faults out.new }
 {
     let mut done = 0;
@@ -94,7 +97,8 @@ pub fn run_arrivals<D: Device, K: Sink>(
     requires sound { IsSound arrivals.now }
     requires least { 1 ≤ budget }
     requires most { budget ≤ 2147483648 }
-    ensures ran { RanWith D.account (world_arrivals arrivals.now) budget (over_sink K.taken K.faults board.old out.old) (over_sink K.taken K.faults board.new out.new) result }
+    ensures ran { RanWith D.account (world_arrivals arrivals.now) budget (over_sink K.taken K.faults board.old out.old)
+        (over_sink K.taken K.faults board.new out.new) result }
     ensures later { K.faults out.old ≤ K.faults out.new }
 {
     match serve_arrivals(board, arrivals.as_slice(), budget, out) {

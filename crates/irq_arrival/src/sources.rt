@@ -12,9 +12,14 @@ ghost use Rattle.irq_arrival.specs.ReachesWith.{ReachesWith};
 
 /// The run with arrivals of an image that implements a program reaches its source with these arrivals at steps of the source's own, and never faults.
 pub fn sources_meet_arrivals()
-    ensures reaches { (P : TypedProgram) (texts : List ByteList) (image : List ℕ) (until : ℕ) (script : List Entry) (arrivals : List Arrival) (budget executed : ℕ) (free : List ℕ)
-        → ImageImplements P texts image → Rises 0 arrivals → IsExecuted (world_with image until script arrivals free) budget executed
-        → (steps : ℕ) × (places : List Arrival) × ReachesWith P texts image until script arrivals budget free executed steps places }
-    ensures faultless { (P : TypedProgram) (texts : List ByteList) (image : List ℕ) (until : ℕ) (script : List Entry) (arrivals : List Arrival) (executed : ℕ) (free : List ℕ)
-        → ImageImplements P texts image → Rises 0 arrivals → SoundEnd (λ kind address. ⊥) (world_with image until script arrivals free executed).board.end }
+    ensures reaches { (P : TypedProgram) (texts : List ByteList) (image : List ℕ) (until : ℕ) (script : List Entry)
+        (arrivals : List Arrival) (budget executed : ℕ) (free : List ℕ)
+        → ImageImplements P texts image → Rises 0 arrivals
+        → IsExecuted (world_with image until script arrivals free) budget executed
+        → (steps : ℕ) × (places : List Arrival)
+        × ReachesWith P texts image until script arrivals budget free executed steps places }
+    ensures faultless { (P : TypedProgram) (texts : List ByteList) (image : List ℕ) (until : ℕ) (script : List Entry)
+        (arrivals : List Arrival) (executed : ℕ) (free : List ℕ)
+        → ImageImplements P texts image → Rises 0 arrivals
+        → SoundEnd (λ kind address. ⊥) (world_with image until script arrivals free executed).board.end }
 {}

@@ -14,7 +14,8 @@ use Rattle.thumb_layout.specs.Holds.{cost, Means}
 use Rattle.thumb_layout.specs.Flash.{HasCode}
 
 -- A flash has the laid code of sound pieces from a multiple of 4 on, with what was open in it: the functions' addresses, and the words for what is named.
-pub record StandInFlash (flash : List ℕ) (base stack_base : ℕ) (entry : ℕ → ℕ) (word_of : What → ℕ) (xs : List Piece) : Type 0 where
+pub record StandInFlash (flash : List ℕ) (base stack_base : ℕ) (entry : ℕ → ℕ) (word_of : What → ℕ)
+    (xs : List Piece) : Type 0 where
   pub sound : IsSound xs
   pub words : HasWords xs
   pub stack : is_base stack_base ≡ true
@@ -23,12 +24,15 @@ pub record StandInFlash (flash : List ℕ) (base stack_base : ℕ) (entry : ℕ 
   pub code : HasCode flash base entry word_of (laid xs)
 
 -- Pieces mean their effects, at their places, at the states of a memory that belong to SP.
-pub record MeanTheirEffects {S : Type 0} (over : Executor S) (Belongs : ℕ → S → Type 0) (fetch : ℕ → Fetched) (p : Places) (xs : List Piece) : Type 0 where
+pub record MeanTheirEffects {S : Type 0} (over : Executor S) (Belongs : ℕ → S → Type 0) (fetch : ℕ → Fetched)
+    (p : Places) (xs : List Piece) : Type 0 where
   -- from a piece's place the machine comes, in fewer instructions than the piece costs, which change no memory and ask for nothing, to one whose step is the piece's effect
-  pub each : (i : ℕ) (x : Piece) → slice_get xs i ≡ Some x → 0 < cost x → (s : Registers) (t : S) → s.pc ≡ p.at i → Belongs s.sp t → Means over fetch p i x s t
+  pub each : (i : ℕ) (x : Piece) → slice_get xs i ≡ Some x → 0 < cost x → (s : Registers) (t : S) → s.pc ≡ p.at i
+      → Belongs s.sp t → Means over fetch p i x s t
   -- a label takes no instruction
   pub labels : (i label : ℕ) → slice_get xs i ≡ Some (Label label) → p.at (i + 1) ≡ p.at i
   -- behind a piece that goes on stands the next one
   pub next : (i : ℕ) (x : Piece) → slice_get xs i ≡ Some x → goes_on x ≡ true → p.behind i ≡ p.at (i + 1)
   -- a branch goes to the place of its label
-  pub targets : (i cond label : ℕ) → slice_get xs i ≡ Some (Go cond label) → slice_get xs (p.label label) ≡ Some (Label label)
+  pub targets : (i cond label : ℕ) → slice_get xs i ≡ Some (Go cond label)
+      → slice_get xs (p.label label) ≡ Some (Label label)

@@ -24,13 +24,17 @@ ghost use Rattle.lower_simulation.specs.Limits.{IsLight};
 /// list of bounds, those of a counted step weigh at most 512 together. Main and the functions of the program keep their numbers, and a function that `forever` starts has
 /// one for each call, behind them. The frames of functions have the words of the measures.
 pub fn lowered_code_does_what_the_source_does()
-    ensures keeps { (P : TypedProgram) (texts : List ByteList) → IsWellTyped P → (weight : FlatActivity → FlatHeap → ℕ) → IsLight (lowered P) weight
+    ensures keeps { (P : TypedProgram) (texts : List ByteList) → IsWellTyped P → (weight : FlatActivity → FlatHeap → ℕ)
+        → IsLight (lowered P) weight
         → Lowers P texts (flat (lowered P) texts) (λ h a b. Tied P texts a b) (CodeTied P texts) weight }
-    ensures frames { (P : TypedProgram) (f : ℕ) (r : TypedRoutine) → HasRoutine P f r → words (lowered P) f ≡ frame_words r }
+    ensures frames { (P : TypedProgram) (f : ℕ) (r : TypedRoutine) → HasRoutine P f r
+        → words (lowered P) f ≡ frame_words r }
 {}
 
 /// The flat code of a well-typed program makes no fault, whatever its texts, its script, and what arrives between two ops: wherever a run of it stands, it has a next step.
 pub fn lowered_code_makes_no_fault()
-    ensures { (P : TypedProgram) (texts : List ByteList) → IsWellTyped P → (until : ℕ) (script : List Entry) (arrivals : List Arrival) → Rises 0 arrivals → (m : ℕ)
-        → SoundEnd (λ kind address. ⊥) (run_with (flat (lowered P) texts) arrivals m (start (flat (lowered P) texts) P.main (forget (empty P texts)) until script)).board.end }
+    ensures { (P : TypedProgram) (texts : List ByteList) → IsWellTyped P
+        → (until : ℕ) (script : List Entry) (arrivals : List Arrival) → Rises 0 arrivals → (m : ℕ)
+        → SoundEnd (λ kind address. ⊥) (run_with (flat (lowered P) texts) arrivals m
+        (start (flat (lowered P) texts) P.main (forget (empty P texts)) until script)).board.end }
 {}

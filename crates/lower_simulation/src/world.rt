@@ -20,5 +20,6 @@ pub fn flat_code_implements_its_program()
         → Implements ops_of_a_step (boards_from (source P texts) P.main (empty P texts))
         (boards_from (flat (lowered P) texts) (lowered P).main (flat_empty (lowered P) texts (length P.globals))) }
     ensures starts { (P : TypedProgram) (texts : List ByteList) (until : ℕ) (script : List Entry)
-        → flat_run (lowered P) texts (length P.globals) until script 0 ≡ start (flat (lowered P) texts) P.main (forget (empty P texts)) until script }
+        → flat_run (lowered P) texts (length P.globals) until script 0
+        ≡ start (flat (lowered P) texts) P.main (forget (empty P texts)) until script }
 {}

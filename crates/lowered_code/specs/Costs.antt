@@ -33,20 +33,24 @@ pub record Costs (c : Op → ℕ) (k room : ℕ) : Type 0 where
   pub set_field : (object field from to value : ℕ) → c (FieldSet object field from) + c (Copy to value) + room ≤ 2 * k
   pub set_item : (array index from to value : ℕ) → c (ItemSet array index from) + c (Copy to value) + room ≤ 2 * k
   -- `++` and `--` beyond that
-  pub bump_field : (object field from to op value : ℕ) → c (FieldSet object field from) + c (Unary to op value) + room ≤ 2 * k
-  pub bump_item : (array index from to op value : ℕ) → c (ItemSet array index from) + c (Unary to op value) + room ≤ 2 * k
+  pub bump_field : (object field from to op value : ℕ)
+      → c (FieldSet object field from) + c (Unary to op value) + room ≤ 2 * k
+  pub bump_item : (array index from to op value : ℕ)
+      → c (ItemSet array index from) + c (Unary to op value) + room ≤ 2 * k
   -- calls with n arguments
   pub call : (to f t n : ℕ) → c (Call to f (span t n [])) + room ≤ k + room * n
   pub slot : (to s t n : ℕ) → c (CallSlot to s (span t n [])) + room ≤ 2 * k + room * n
   pub ask : (to s t n : ℕ) → c (Ask to s (span t n [])) + room ≤ k + room * n
   pub spawn : (to f to' t : ℕ) → c (HandlerOf to f) + c (Ask to' SPAWN (t ∷ [])) + room ≤ k
   pub super : (to f t n : ℕ) → c (Copy to 0) + c (Call to f (span t (suc n) [])) + room ≤ k + room * n
-  pub make : (to class to' f this t n : ℕ) → c (MakeObject to class) + c (Call to' f (this ∷ span t n [])) + room ≤ 3 * k + room * n
+  pub make : (to class to' f this t n : ℕ)
+      → c (MakeObject to class) + c (Call to' f (this ∷ span t n [])) + room ≤ 3 * k + room * n
   -- statements
   pub declared : (to : ℕ) (n : ℤ) (to' from : ℕ) → c (Const to n) + c (Copy to' from) ≤ k
   pub declared_global : (to : ℕ) (n : ℤ) (slot from : ℕ) → c (Const to n) + c (GlobalSet slot from) ≤ k
   pub loop : (list next operand at out item back : ℕ) (n : ℤ)
-      → c (Copy list operand) + c (Const operand n) + c (Copy next operand) + c (Length operand list) + c (Binary operand 6 next operand) + c (Branch operand at) + c (Jump out)
+      → c (Copy list operand) + c (Const operand n) + c (Copy next operand) + c (Length operand list)
+      + c (Binary operand 6 next operand) + c (Branch operand at) + c (Jump out)
       + c (ItemGet item list next) + c (Unary next 5 next) + c (Jump back) ≤ 4 * k
   pub gives : (from : ℕ) → c (Return from) ≤ k
   pub gives_number : (to : ℕ) (n : ℤ) (from : ℕ) → c (Const to n) + c (Return from) ≤ k

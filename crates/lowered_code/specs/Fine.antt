@@ -52,7 +52,8 @@ module _ (functions : ℕ) (repeated : List ℕ) (params locals : ℕ) where
     Fine (e.Call u (c.Slot s) args) = FineEach args
     Fine (e.Call u c.Push args) = FineEach args × (how_many args ≡ 2)
     Fine (e.Call u c.Pop args) = FineEach args × (how_many args ≡ 1)
-    Fine (e.Call u (c.Board call) args) = FineGiven (row_of call).takes args × FineAction (row_of call).action (handler_of args)
+    Fine (e.Call u (c.Board call) args) =
+        FineGiven (row_of call).takes args × FineAction (row_of call).action (handler_of args)
     Fine (e.SuperCall u f args) = (0 < params) × FineEach args
     Fine (e.Make u class args) = FineEach args
     Fine (e.Items u items) = FineEach items
@@ -114,6 +115,8 @@ module _ (functions : ℕ) (repeated : List ℕ) (params locals : ℕ) where
 
 -- What lowering needs of a program: its functions are fine; a constructor has its object as a parameter, and no function that `forever` starts is one.
 pub record IsFine (P : TypedProgram) : Type 0 where
-  pub all : (f : ℕ) (r : TypedRoutine) → entry P.functions f ≡ Some r → FineStatements (length P.functions) (repeated_in_program P) (length r.params) (length r.locals) r.all
-  pub this : (f : ℕ) (r : TypedRoutine) → entry P.functions f ≡ Some r → is_maker P.classes f ≡ true → 0 < length r.params
+  pub all : (f : ℕ) (r : TypedRoutine) → entry P.functions f ≡ Some r
+      → FineStatements (length P.functions) (repeated_in_program P) (length r.params) (length r.locals) r.all
+  pub this : (f : ℕ) (r : TypedRoutine) → entry P.functions f ≡ Some r → is_maker P.classes f ≡ true
+      → 0 < length r.params
   pub makers : (g : ℕ) → is_maker P.classes (length P.functions + g) ≡ true → ⊥

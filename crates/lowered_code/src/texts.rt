@@ -16,5 +16,6 @@ pub fn names_only_its_texts()
 
 /// Each number that an op of a well-typed program's flat code gives has 32 bits with a sign.
 pub fn its_numbers_have_32_bits()
-    ensures { (P : TypedProgram) → IsWellTyped P → AllByRecursion (AllHave (λ n. FitsSigned w32 n) (λ n. Unit {0})) (lowered P).functions }
+    ensures { (P : TypedProgram) → IsWellTyped P
+        → AllByRecursion (AllHave (λ n. FitsSigned w32 n) (λ n. Unit {0})) (lowered P).functions }
 {}

@@ -31,7 +31,8 @@ abbrev pub paddle_move : TypedRoutine
 paddle_move =
     function (t.Object 0 ∷ (t.Number ∷ [])) [] t.Nothing
     (does (board b.Unplot (this_x ∷ (num 4 ∷ [])))
-    ∷ (does (e.Set t.Number None this_x (call t.Number 6 (num 0 ∷ (call t.Number 5 (num 4 ∷ (binary add this_x (param t.Number 1) ∷ [])) ∷ []))))
+    ∷ (does (e.Set t.Number None this_x
+    (call t.Number 6 (num 0 ∷ (call t.Number 5 (num 4 ∷ (binary add this_x (param t.Number 1) ∷ [])) ∷ []))))
     ∷ (does (board b.Plot (this_x ∷ (num 4 ∷ []))) ∷ [])))
 
 abbrev pub paddle : TypedTree
@@ -56,8 +57,10 @@ drops_fall =
     (e.IfOnly (less turn (num 1)) (nested_block
     (let_local 0 (e.Item t.Number (global (t.ListOf t.Number) 1) turn)
     ∷ (e.For (e.written (let_local 1 (num 0))) (Some (less row (num 4))) (Some (e.Bump t.Number row (pos 1) true))
-    (nested_block (does (board b.Plot (col ∷ (row ∷ []))) ∷ (pauses 100 ∷ (does (board b.Unplot (col ∷ (row ∷ []))) ∷ []))))
-    ∷ (e.IfOnly (equal (e.Field t.Number paddle 0) col) (nested_block (does (e.Set t.Number (Some add) score (num 1)) ∷ []))
+    (nested_block (does (board b.Plot (col ∷ (row ∷ [])))
+    ∷ (pauses 100 ∷ (does (board b.Unplot (col ∷ (row ∷ []))) ∷ []))))
+    ∷ (e.IfOnly (equal (e.Field t.Number paddle 0) col)
+    (nested_block (does (e.Set t.Number (Some add) score (num 1)) ∷ []))
     ∷ (does (e.Set t.Number (Some add) turn (num 1)) ∷ (does (call t.Nothing 1 (score ∷ [])) ∷ [])))))) ∷ []))
 
 -- let paddle = new Paddle(); let drops = [0, 3, 1, 4, 2]; let turn = 0; let score = 0, and the handlers
@@ -67,13 +70,16 @@ game_main =
     (let_global 0 (e.Make (t.Object 0) 0 (args []))
     ∷ (let_global 1 (e.Items (t.ListOf t.Number) (args (num 0 ∷ (num 3 ∷ (num 1 ∷ (num 4 ∷ (num 2 ∷ [])))))))
     ∷ (let_global 2 (num 0) ∷ (let_global 3 (num 0)
-    ∷ (does (board b.OnButtonPressed (num 1 ∷ (handler 9 ∷ []))) ∷ (does (board b.OnButtonPressed (num 2 ∷ (handler 10 ∷ [])))
+    ∷ (does (board b.OnButtonPressed (num 1 ∷ (handler 9 ∷ [])))
+    ∷ (does (board b.OnButtonPressed (num 2 ∷ (handler 10 ∷ [])))
     ∷ (does (board b.Forever (handler 11 ∷ [])) ∷ [])))))))
 
 abbrev pub game : TypedProgram
 game = record {
   classes = record { base = None; fields = t.Number ∷ []; slots = 8 ∷ []; maker = 7 } ∷ [];
-  functions = library_routines 0 ++ (paddle_maker ∷ (paddle_move ∷ (moves_left ∷ (moves_right ∷ (drops_fall ∷ (game_main ∷ []))))));
+  functions =
+      library_routines 0
+      ++ (paddle_maker ∷ (paddle_move ∷ (moves_left ∷ (moves_right ∷ (drops_fall ∷ (game_main ∷ []))))));
   globals = t.Object 0 ∷ (t.ListOf t.Number ∷ (t.Number ∷ (t.Number ∷ [])));
   main = 12;
 }
@@ -97,7 +103,8 @@ move_code =
     ∷ off 2)))))))))))))))))))))
 
 abbrev pub left_code : Function
-left_code = w.function 0 0 2 2 (GlobalGet 0 0 ∷ (Const 1 (pos 1) ∷ (Unary 1 1 1 ∷ (CallSlot 0 0 (0 ∷ (1 ∷ [])) ∷ off 0))))
+left_code =
+    w.function 0 0 2 2 (GlobalGet 0 0 ∷ (Const 1 (pos 1) ∷ (Unary 1 1 1 ∷ (CallSlot 0 0 (0 ∷ (1 ∷ [])) ∷ off 0))))
 
 abbrev pub right_code : Function
 right_code = w.function 0 0 2 2 (GlobalGet 0 0 ∷ (Const 1 (pos 1) ∷ (CallSlot 0 0 (0 ∷ (1 ∷ [])) ∷ off 0)))

@@ -6,7 +6,8 @@ use Rattle.flat_ir.specs.declared.ops.Function.{Function}
 use Rattle.flat_ir.specs.declared.ops.FlatCode.{FlatCode}
 
 abbrev pub function : (params locals operands outgoing : ℕ) → List Op → Function
-function params locals operands outgoing ops = record { params = params; locals = locals; operands = operands; outgoing = outgoing; ops = ops }
+function params locals operands outgoing ops =
+    record { params = params; locals = locals; operands = operands; outgoing = outgoing; ops = ops }
 
 abbrev pub add : ℕ
 add = 13
@@ -63,8 +64,10 @@ says_mid = function 0 0 1 1 (Const 0 (pos 6) ∷ (Call 0 1 (0 ∷ []) ∷ (Ask 0
 abbrev pub four_code : Function
 four_code =
     function 0 4 2 0
-    (Const 4 (pos 11) ∷ (Copy 0 4 ∷ (Const 4 (pos 22) ∷ (Copy 1 4 ∷ (Const 4 (pos 33) ∷ (Copy 2 4 ∷ (Const 4 (pos 44) ∷ (Copy 3 4
-    ∷ (Copy 4 0 ∷ (Copy 5 1 ∷ (Binary 4 add 4 5 ∷ (Copy 5 2 ∷ (Binary 4 add 4 5 ∷ (Copy 5 3 ∷ (Binary 4 add 4 5 ∷ (Ask 4 12 (4 ∷ [])
+    (Const 4
+    (pos 11) ∷ (Copy 0 4 ∷ (Const 4 (pos 22) ∷ (Copy 1 4 ∷ (Const 4 (pos 33) ∷ (Copy 2 4 ∷ (Const 4 (pos 44) ∷ (Copy 3 4
+    ∷ (Copy 4 0
+    ∷ (Copy 5 1 ∷ (Binary 4 add 4 5 ∷ (Copy 5 2 ∷ (Binary 4 add 4 5 ∷ (Copy 5 3 ∷ (Binary 4 add 4 5 ∷ (Ask 4 12 (4 ∷ [])
     ∷ off 4))))))))))))))))
 
 -- control.onEvent(50, 1, ..); control.onEvent(50, 1, ..); control.raiseEvent(50, 1)

@@ -8,32 +8,38 @@ ghost use Rattle.lowered_rows.specs.Runs.{flat_written, flat_written_on, flat_wr
 /// Division by zero, signs, and 32 bits.
 pub fn rows_of_numbers()
     ensures division { flat_written 90 division ≡ codes "0 serial 30\n0 serial 2d31\nend 0 quiet\n" }
-    ensures bits { flat_written 180 numbers_of_32_bits ≡ codes "0 serial 3135\n0 serial 2d35\n0 serial 32\n0 serial 2d32313437343833363438\n0 serial 2d33\nend 0 quiet\n" }
-    ensures names { flat_written 300 steps_of_a_name ≡ codes "0 serial 35\n0 serial 36\n0 serial 35\n0 serial 32\n0 serial 34\nend 0 quiet\n" }
+    ensures bits { flat_written 180 numbers_of_32_bits ≡ codes
+        "0 serial 3135\n0 serial 2d35\n0 serial 32\n0 serial 2d32313437343833363438\n0 serial 2d33\nend 0 quiet\n" }
+    ensures names { flat_written 300 steps_of_a_name
+        ≡ codes "0 serial 35\n0 serial 36\n0 serial 35\n0 serial 32\n0 serial 34\nend 0 quiet\n" }
     ensures unset { flat_written 90 unset ≡ codes "0 serial 30\n0 serial 30\n0 serial 33\nend 0 quiet\n" }
 {}
 
 /// Handlers in order, seats, and activities that repeat.
 pub fn rows_of_activities()
     ensures blinking { flat_written_until 180 blinking 50 ≡ codes "0 display #..../...../...../...../.....\n20 display ...../...../...../...../.....\n40 display #..../...../...../...../.....\nend 50 script\n" }
-    ensures deep_handlers { flat_counted 360 deep_handlers ≡ codes "0 serial 313130\n5 serial 373231\nend 5 quiet\nstats spawned 1 blocked 1 words 25 seats 1\n" }
+    ensures deep_handlers { flat_counted 360 deep_handlers
+        ≡ codes "0 serial 313130\n5 serial 373231\nend 5 quiet\nstats spawned 1 blocked 1 words 25 seats 1\n" }
     ensures two_handlers { flat_written 180 two_handlers ≡ codes "0 serial 32\n5 serial 31\nend 5 quiet\n" }
     ensures click { flat_written_on 120 presses 1000 (pressed 100 300) ≡ codes "300 serial 31\nend 300 quiet\n" }
     ensures long_press { flat_written_on 120 presses 2000 (pressed 100 1100) ≡ codes "end 1100 quiet\n" }
-    ensures seats { flat_counted 3000 (seats 23) ≡ codes "0 serial 37\nend 0 quiet\nstats spawned 24 blocked 0 words 161 seats 24\n" }
+    ensures seats { flat_counted 3000 (seats 23)
+        ≡ codes "0 serial 37\nend 0 quiet\nstats spawned 24 blocked 0 words 161 seats 24\n" }
     ensures no_seat { flat_written 3000 (seats 24) ≡ codes "panic 0 101\n" }
 {}
 
 /// What comes of events while their handler runs.
 pub fn rows_of_busy_listeners()
-    ensures queues { flat_counted 600 (busy 16 3) ≡ codes "5 serial 31\n10 serial 32\n15 serial 33\nend 15 quiet\nstats spawned 1 blocked 1 words 18 seats 1\n" }
+    ensures queues { flat_counted 600 (busy 16 3)
+        ≡ codes "5 serial 31\n10 serial 32\n15 serial 33\nend 15 quiet\nstats spawned 1 blocked 1 words 18 seats 1\n" }
     ensures drops { flat_written 600 (busy 32 3) ≡ codes "5 serial 31\nend 5 quiet\n" }
     ensures begins_each { flat_written 600 (busy 8 3) ≡ codes "5 serial 31\n5 serial 32\n5 serial 33\nend 5 quiet\n" }
 {}
 
 /// Handlers that run before the raiser goes on, at its depth.
 pub fn rows_of_raising_at_once()
-    ensures once { flat_counted 300 (at_once 1) ≡ codes "0 serial 31\n0 serial 39\n5 serial 32\nend 5 quiet\nstats spawned 1 blocked 1 words 6 seats 2\n" }
+    ensures once { flat_counted 300 (at_once 1)
+        ≡ codes "0 serial 31\n0 serial 39\n5 serial 32\nend 5 quiet\nstats spawned 1 blocked 1 words 6 seats 2\n" }
     ensures twice { flat_counted 450 (at_once 2) ≡ codes "0 serial 31\n0 serial 39\n0 serial 39\n5 serial 32\n5 serial 31\n10 serial 32\nend 10 quiet\nstats spawned 1 blocked 1 words 12 seats 2\n" }
     ensures raisers { flat_written 1200 (endless_raisers 0) ≡ codes "panic 0 106\n" }
     ensures depth { flat_written 1200 (endless_raisers 30) ≡ codes "panic 0 102\n" }
@@ -41,8 +47,10 @@ pub fn rows_of_raising_at_once()
 
 /// Texts, and what is asked of the board.
 pub fn rows_of_texts()
-    ensures texts { flat_written_with 180 (codes "hi" ∷ codes "ho" ∷ []) texts ≡ codes "0 serial 6869\n0 serial 32\npanic 0 105\n" }
-    ensures questions { flat_written 240 questions ≡ codes "0 display .#.../...../...../...../.....\n0 display ...../...../...../...../.....\n7 serial 37\npanic 8 44\n" }
+    ensures texts { flat_written_with 180 (codes "hi" ∷ codes "ho" ∷ []) texts
+        ≡ codes "0 serial 6869\n0 serial 32\npanic 0 105\n" }
+    ensures questions { flat_written 240 questions ≡ codes
+        "0 display .#.../...../...../...../.....\n0 display ...../...../...../...../.....\n7 serial 37\npanic 8 44\n" }
 {}
 
 /// Depth, the arena, indices and null.
@@ -71,7 +79,9 @@ pub fn rows_of_orders()
     ensures growing { flat_written 300 growing_list ≡ codes "0 serial 31\n0 serial 32\n0 serial 33\nend 0 quiet\n" }
     ensures once { flat_written 300 list_evaluated_once ≡ codes "0 serial 35\n0 serial 31\n0 serial 33\nend 0 quiet\n" }
     ensures methods { flat_written 300 methods ≡ codes "0 serial 35\n0 serial 3630\n0 serial 37\npanic 0 105\n" }
-    ensures constructors { flat_written 300 constructors ≡ codes "0 serial 33\n0 serial 31\n0 serial 32\n0 serial 34\n0 serial 35\n0 serial 34\nend 0 quiet\n" }
+    ensures constructors { flat_written 300 constructors
+        ≡ codes "0 serial 33\n0 serial 31\n0 serial 32\n0 serial 34\n0 serial 35\n0 serial 34\nend 0 quiet\n" }
     ensures each_time { flat_written 180 set_each_time ≡ codes "0 serial 30\n0 serial 30\nend 0 quiet\n" }
-    ensures early { flat_written 180 early_stops ≡ codes "0 serial 32\n0 serial 33\n0 serial 36\n0 serial 39\n0 serial 37\nend 0 quiet\n" }
+    ensures early { flat_written 180 early_stops
+        ≡ codes "0 serial 32\n0 serial 33\n0 serial 36\n0 serial 39\n0 serial 37\nend 0 quiet\n" }
 {}

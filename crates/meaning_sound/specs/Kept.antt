@@ -44,7 +44,8 @@ module _ (P : TypedProgram) where
 
   -- a constructor gives its `this`
   abbrev pub GivesThis : Setting → Type 0
-  GivesThis S = S.maker ≡ true → (c : ℕ) × (entry S.routine.params 0 ≡ Some (t.Object c)) × (S.routine.gives ≡ t.Object c)
+  GivesThis S =
+      S.maker ≡ true → (c : ℕ) × (entry S.routine.params 0 ≡ Some (t.Object c)) × (S.routine.gives ≡ t.Object c)
 
   -- a frame of a function, with what will still be given to it
   pub record IsFrame (h : Heap) (given : List Sort) (frame : Frame) (S : Setting) : Type 0 where
@@ -58,7 +59,8 @@ module _ (P : TypedProgram) where
   -- the frames that wait for a value of a type
   abbrev pub Wait : Heap → ValueType → List Frame → Type 0
   Wait h u [] = Unit {0}
-  Wait h u (frame ∷ rest) = (S : Setting) × (r : Sort) × Suits P (Of u) r × IsFrame h (r ∷ []) frame S × Wait h S.routine.gives rest
+  Wait h u (frame ∷ rest) =
+      (S : Setting) × (r : Sort) × Suits P (Of u) r × IsFrame h (r ∷ []) frame S × Wait h S.routine.gives rest
 
   abbrev pub IsActivity : Heap → Activity → Type 0
   IsActivity h (Starts f base) = May P f

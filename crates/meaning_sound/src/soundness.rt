@@ -15,10 +15,13 @@ ghost use Rattle.meaning_sound.specs.Kept.{typed};
 
 /// No run of a well-typed program ends by a fault, whatever its texts, its script, and what arrives between two counted steps.
 pub fn typed_programs_make_no_fault()
-    ensures alone { (P : TypedProgram) (texts : List ByteList) → IsWellTyped P → (until : ℕ) (script : List Entry) (n : ℕ)
+    ensures alone { (P : TypedProgram) (texts : List ByteList) → IsWellTyped P
+        → (until : ℕ) (script : List Entry) (n : ℕ)
         → SoundEnd (λ kind address. ⊥) (source_run P texts until script n).board.end }
-    ensures under_arrivals { (P : TypedProgram) (texts : List ByteList) → IsWellTyped P → (until : ℕ) (script : List Entry) (arrivals : List Arrival) → Rises 0 arrivals → (n : ℕ)
-        → SoundEnd (λ kind address. ⊥) (run_with (source P texts) arrivals n (source_start P texts until script)).board.end }
+    ensures under_arrivals { (P : TypedProgram) (texts : List ByteList) → IsWellTyped P
+        → (until : ℕ) (script : List Entry) (arrivals : List Arrival) → Rises 0 arrivals → (n : ℕ)
+        → SoundEnd (λ kind address. ⊥)
+        (run_with (source P texts) arrivals n (source_start P texts until script)).board.end }
 {}
 
 /// Each step of a typed activity of a well-typed program is no fault and leaves all typed.

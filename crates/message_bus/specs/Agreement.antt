@@ -13,7 +13,8 @@ hearings ls = map (λ l. l.hearing) ls
 module _ {A S : Type 0} where
   -- how many activities of listener i are alive
   abbrev pub living : ℕ → World A S → ℕ
-  living i w = how_many (is_of i) w.ready + (how_many (λ p. is_of i p.1) w.sleepers + how_many (λ p. is_of i p.1) w.waiters)
+  living i w =
+      how_many (is_of i) w.ready + (how_many (λ p. is_of i p.1) w.sleepers + how_many (λ p. is_of i p.1) w.waiters)
 
   pub record Agrees (b : BusState) (w : World A S) : Type 0 where
     pub listeners : w.listeners ≡ hearings b.listeners
@@ -22,7 +23,8 @@ module _ {A S : Type 0} where
 
 -- an activity of listener i, as it begins
 abbrev pub handler_activity : {A : Type 0} → A → Event → ℕ → Activity A
-handler_activity self e i = record { self = self; value = e.value; listener = Some i; seated = false; suspended = false }
+handler_activity self e i =
+    record { self = self; value = e.value; listener = Some i; seated = false; suspended = false }
 
 -- the new activities for an event, one for each listener whose bit is set; i is the first one's number
 abbrev pub begun : {A : Type 0} → (ℕ → A) → Event → ℕ → List ListenerState → List (Activity A)

@@ -27,7 +27,9 @@ begins_new e l = wants e l && (int_eq l.hearing.listener.mode reentrant || l.ali
 
 -- whether it holds the event instead: where it queues and holds fewer than ten
 abbrev pub holds_it : Event → ListenerState → Bool
-holds_it e l = wants e l && (not (begins_new e l) && (not (int_eq l.hearing.listener.mode drops_if_busy) && nat_lt (length l.hearing.held) held_limit))
+holds_it e l =
+    wants e l && (not (begins_new e l)
+    && (not (int_eq l.hearing.listener.mode drops_if_busy) && nat_lt (length l.hearing.held) held_limit))
 
 abbrev pub with_held : List Event → ListenerState → ListenerState
 with_held events l = record l { hearing = record l.hearing { held = events } }

@@ -33,7 +33,9 @@ impl Model for Bus {
 
     ghost view = { λ b. record { listeners = b.registrations.items; queue = b.queue.items } };
 
-    ghost invariant = { λ b. (listener_limit ≤ vec_capacity b.registrations) × (vec_len b.registrations + vec_len b.spare ≡ listener_limit) × (b.queue.capacity ≡ queue_limit) × (length b.queue.items ≤ queue_limit) };
+    ghost invariant = { λ b. (listener_limit ≤ vec_capacity b.registrations)
+        × (vec_len b.registrations + vec_len b.spare ≡ listener_limit) × (b.queue.capacity ≡ queue_limit)
+        × (length b.queue.items ≤ queue_limit) };
 }
 
 /// 32 listeners stand.
@@ -89,7 +91,8 @@ impl Bus {
     /// Registers a listener behind the others. It is refused exactly where 32 stand; then nothing changes.
     pub fn listen(&mut self, listener: Listener) -> Result<(), ListenersFull>
         ensures room { IsOk result ↔ (length self.old.listeners < listener_limit) }
-        ensures ok { OnOk result (self.new ≡ record self.old { listeners = self.old.listeners ++ fresh listener ∷ [] }) }
+        ensures ok { OnOk result
+            (self.new ≡ record self.old { listeners = self.old.listeners ++ fresh listener ∷ [] }) }
         ensures full { OnErr result (self.new ≡ self.old) }
     {
         match self.spare.pop() {
@@ -146,7 +149,8 @@ impl Bus {
     pub fn dispatch(&mut self, event: Event) -> u32
         requires { All (λ l. l.alive < 1000) self.old.listeners }
         ensures bits { result ≡ begun_bits event self.old.listeners }
-        ensures each { (i : ℕ) → IsBitSet result i ↔ AtListener (λ l. IsTrue (begins_new event l)) i self.old.listeners }
+        ensures each { (i : ℕ)
+            → IsBitSet result i ↔ AtListener (λ l. IsTrue (begins_new event l)) i self.old.listeners }
         ensures after { self.new ≡ record self.old { listeners = map (heard event) self.old.listeners } }
     {
         let bits = begun(self.registrations.as_slice(), event);

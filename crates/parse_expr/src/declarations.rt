@@ -24,7 +24,9 @@ impl<
     /// `=` and an initialiser, which `let` may lack.
     pub fn initialiser(&self, fixed: bool, at: usize) -> Result<Read<Option<Expr>>, Unread>
         requires { Nests self.now E.pre E.post S.pre S.post }
-        ensures reads { Gives (read_of optional_expression) result (read.read_initialiser ((nested self.now.reader self.now.room).expr assignment_level) fixed (source.is_mark Mark.Assign (source.kind (source self.now.reader) at)) at) }
+        ensures reads { Gives (read_of optional_expression) result
+            (read.read_initialiser ((nested self.now.reader self.now.room).expr assignment_level) fixed
+            (source.is_mark Mark.Assign (source.kind (source self.now.reader) at)) at) }
         ensures nesting { IfOk result (λ r. r.nesting ≡ optional_nesting (optional_expression r.item)) }
         ensures fits { IfOk result (λ r. r.nesting ≤ self.now.room) }
     {
@@ -50,7 +52,8 @@ impl<
     #[tactic(auto, unfolding(sts_grammar::specs::ReadStatements::read_declaration))]
     fn declared(&self, fixed: bool, at: usize) -> Result<Read<Binding>, Unread>
         requires { Nests self.now E.pre E.post S.pre S.post }
-        ensures reads { Gives (read_of declaration) result (read.read_declaration (source self.now.reader) ((nested self.now.reader self.now.room).expr assignment_level) fixed at) }
+        ensures reads { Gives (read_of declaration) result (read.read_declaration (source self.now.reader)
+            ((nested self.now.reader self.now.room).expr assignment_level) fixed at) }
         ensures nesting { IfOk result (λ r. r.nesting ≡ declaration_nesting (declaration r.item)) }
         ensures fits { IfOk result (λ r. r.nesting ≤ self.now.room + 1) }
     {
@@ -68,7 +71,8 @@ impl<
     #[tactic(auto, unfolding(sts_grammar::specs::ReadStatements::read_let))]
     pub fn declarations(&self, fixed: bool, at: usize) -> Result<Read<Seq<Binding>>, Unread>
         requires { Nests self.now E.pre E.post S.pre S.post }
-        ensures reads { Gives (read_of declarations) result (read.read_let (source self.now.reader) ((nested self.now.reader self.now.room).expr assignment_level) fixed at) }
+        ensures reads { Gives (read_of declarations) result (read.read_let (source self.now.reader)
+            ((nested self.now.reader self.now.room).expr assignment_level) fixed at) }
         ensures nesting { IfOk result (λ r. r.nesting ≡ deepest_declaration (declarations r.item)) }
         ensures fits { IfOk result (λ r. r.nesting ≤ self.now.room + 1) }
     {

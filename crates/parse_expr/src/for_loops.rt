@@ -72,7 +72,8 @@ impl<
         at: usize,
     ) -> Result<Read<Stmt>, Unread>
         requires { Nests self.now E.pre E.post S.pre S.post }
-        ensures reads { Gives (read_of statement) result (read.read_for_of (source self.now.reader) (nested self.now.reader self.now.room) in_function place fixed name at) }
+        ensures reads { Gives (read_of statement) result (read.read_for_of (source self.now.reader)
+            (nested self.now.reader self.now.room) in_function place fixed name at) }
         ensures nesting { IfOk result (λ r. r.nesting ≡ statement_nesting (statement r.item)) }
         ensures fits { IfOk result (λ r. r.nesting ≤ self.now.room + 1) }
     {
@@ -95,7 +96,8 @@ impl<
     fn written_first(&self, at: usize, fixed: Option<bool>) -> Result<Read<Option<Stmt>>, Unread>
         requires nests { Nests self.now E.pre E.post S.pre S.post }
         requires here { fixed ≢ None → at < usize.MAX }
-        ensures reads { Gives (read_of optional_written) result (read.read_first (source self.now.reader) self.now.room ((nested self.now.reader self.now.room).expr assignment_level) at fixed) }
+        ensures reads { Gives (read_of optional_written) result (read.read_first (source self.now.reader) self.now.room
+            ((nested self.now.reader self.now.room).expr assignment_level) at fixed) }
         ensures nesting { IfOk result (λ r. r.nesting ≡ optional_statement_nesting (optional_written r.item)) }
         ensures fits { IfOk result (λ r. r.nesting ≤ self.now.room) }
     {
@@ -130,7 +132,8 @@ impl<
     #[tactic(auto, unfolding(sts_grammar::specs::ReadStatements::read_optional_first))]
     fn first(&self, at: usize) -> Result<Read<Option<Stmt>>, Unread>
         requires { Nests self.now E.pre E.post S.pre S.post }
-        ensures reads { Gives (read_of optional_written) result (read.read_optional_first (source self.now.reader) self.now.room ((nested self.now.reader self.now.room).expr assignment_level) at) }
+        ensures reads { Gives (read_of optional_written) result (read.read_optional_first (source self.now.reader)
+            self.now.room ((nested self.now.reader self.now.room).expr assignment_level) at) }
         ensures nesting { IfOk result (λ r. r.nesting ≡ optional_statement_nesting (optional_written r.item)) }
         ensures fits { IfOk result (λ r. r.nesting ≤ self.now.room) }
     {
@@ -147,7 +150,8 @@ impl<
     /// An expression, unless its end is there already.
     fn optional(&self, ends: bool, at: usize) -> Result<Read<Option<Expr>>, Unread>
         requires { Nests self.now E.pre E.post S.pre S.post }
-        ensures reads { Gives (read_of optional_expression) result (read.read_optional ((nested self.now.reader self.now.room).expr assignment_level) ends at) }
+        ensures reads { Gives (read_of optional_expression) result
+            (read.read_optional ((nested self.now.reader self.now.room).expr assignment_level) ends at) }
         ensures nesting { IfOk result (λ r. r.nesting ≡ optional_nesting (optional_expression r.item)) }
         ensures fits { IfOk result (λ r. r.nesting ≤ self.now.room) }
     {
@@ -181,7 +185,9 @@ impl<
         requires first_small { first.nesting ≤ self.now.room }
         requires test_weighed { test.nesting ≡ optional_nesting (optional_expression test.item) }
         requires test_small { test.nesting ≤ self.now.room }
-        ensures reads { Gives (read_of statement) result (read.read_step (source self.now.reader) (nested self.now.reader self.now.room) in_function place (optional_written first.item) (optional_expression test.item) at) }
+        ensures reads { Gives (read_of statement) result
+            (read.read_step (source self.now.reader) (nested self.now.reader self.now.room) in_function place
+            (optional_written first.item) (optional_expression test.item) at) }
         ensures nesting { IfOk result (λ r. r.nesting ≡ statement_nesting (statement r.item)) }
         ensures fits { IfOk result (λ r. r.nesting ≤ self.now.room + 1) }
     {
@@ -210,7 +216,8 @@ impl<
     #[tactic(auto, unfolding(sts_grammar::specs::ReadStatements::read_three))]
     fn counting(&self, in_function: bool, place: u32, at: usize) -> Result<Read<Stmt>, Unread>
         requires { Nests self.now E.pre E.post S.pre S.post }
-        ensures reads { Gives (read_of statement) result (read.read_three (source self.now.reader) self.now.room (nested self.now.reader self.now.room) in_function place at) }
+        ensures reads { Gives (read_of statement) result (read.read_three (source self.now.reader) self.now.room
+            (nested self.now.reader self.now.room) in_function place at) }
         ensures nesting { IfOk result (λ r. r.nesting ≡ statement_nesting (statement r.item)) }
         ensures fits { IfOk result (λ r. r.nesting ≤ self.now.room + 1) }
     {
@@ -234,7 +241,8 @@ impl<
     #[tactic(auto, unfolding(sts_grammar::specs::ReadStatements::read_for))]
     pub fn for_loop(&self, in_function: bool, place: u32, at: usize) -> Result<Read<Stmt>, Unread>
         requires { Nests self.now E.pre E.post S.pre S.post }
-        ensures reads { Gives (read_of statement) result (read.read_for (source self.now.reader) self.now.room (nested self.now.reader self.now.room) in_function place at) }
+        ensures reads { Gives (read_of statement) result (read.read_for (source self.now.reader) self.now.room
+            (nested self.now.reader self.now.room) in_function place at) }
         ensures nesting { IfOk result (λ r. r.nesting ≡ statement_nesting (statement r.item)) }
         ensures fits { IfOk result (λ r. r.nesting ≤ self.now.room + 1) }
     {

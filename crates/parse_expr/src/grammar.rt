@@ -27,7 +27,8 @@ impl<
     /// An expression that holds at least so tightly together.
     pub fn expression(&self, level: u8, at: usize) -> Result<Read<Expr>, Unread>
         requires { Nests self.now E.pre E.post S.pre S.post }
-        ensures reads { Gives (read_of tree) result (reading.expression (source self.now.reader) self.now.reader.upto self.now.room level at) }
+        ensures reads { Gives (read_of tree) result
+            (reading.expression (source self.now.reader) self.now.reader.upto self.now.room level at) }
         ensures nesting { IfOk result (λ r. r.nesting ≡ nesting (tree r.item)) }
         ensures fits { IfOk result (λ r. r.nesting ≤ self.now.room) }
     {
@@ -42,7 +43,8 @@ impl<
         at: usize,
     ) -> Result<Read<Stmt>, Unread>
         requires { Nests self.now E.pre E.post S.pre S.post }
-        ensures reads { Gives (read_of statement) result (reading.statement (source self.now.reader) self.now.room in_function in_loop at) }
+        ensures reads { Gives (read_of statement) result
+            (reading.statement (source self.now.reader) self.now.room in_function in_loop at) }
         ensures nesting { IfOk result (λ r. r.nesting ≡ statement_nesting (statement r.item)) }
         ensures fits { IfOk result (λ r. r.nesting ≤ self.now.room) }
     {

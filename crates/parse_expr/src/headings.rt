@@ -52,7 +52,8 @@ impl<'a> Reader<'a> {
     /// A type with the `[]` behind it.
     #[tactic(auto, using(crate::proofs::Loops::wrap_at), unfolding(sts_grammar::specs::ReadHeadings::wrap_type))]
     fn wrapped(&self, item: Shape, at: usize) -> Result<(Shape, usize), Unread>
-        ensures { Gives (found annotation) result (Some (read.wrap_type (source self.now) (length self.now.tokens.now) (annotation item) at)) }
+        ensures { Gives (found annotation) result
+            (Some (read.wrap_type (source self.now) (length self.now.tokens.now) (annotation item) at)) }
     {
         let mut shape = item;
         let mut end = at;
@@ -127,7 +128,8 @@ impl<'a> Reader<'a> {
     /// Parameters from the first on, and the token behind their `)`.
     #[tactic(auto, using(crate::proofs::Loops::parameters_at, crate::proofs::OneMore::parameters_put), unfolding(sts_grammar::specs::ReadHeadings::read_more_parameters))]
     fn some_parameters(&self, at: usize) -> Result<(Seq<Param>, usize), Unread>
-        ensures { Gives (found parameters) result (read.read_more_parameters (source self.now) (length self.now.tokens.now) [] at) }
+        ensures { Gives (found parameters) result
+            (read.read_more_parameters (source self.now) (length self.now.tokens.now) [] at) }
     {
         let mut all = Seq::new(self.alloc);
         let mut next = at;

@@ -23,7 +23,9 @@ impl<
     /// Expressions from the first on up to the mark that closes them, and the token behind it.
     fn some_items(&self, square: bool, at: usize) -> Result<Read<Seq<Expr>>, Unread>
         requires { Nests self.now E.pre E.post S.pre S.post }
-        ensures reads { Gives (read_of trees) result (read.read_items (source self.now.reader) square ((nested self.now.reader self.now.room).expr assignment_level) (length self.now.reader.tokens.now) none at) }
+        ensures reads { Gives (read_of trees) result (read.read_items (source self.now.reader) square
+            ((nested self.now.reader self.now.room).expr assignment_level)
+            (length self.now.reader.tokens.now) none at) }
         ensures nesting { IfOk result (λ r. r.nesting ≡ deepest_tree (trees r.item)) }
         ensures fits { IfOk result (λ r. r.nesting ≤ self.now.room) }
     {
@@ -52,7 +54,8 @@ impl<
     #[tactic(auto, unfolding(sts_grammar::specs::ReadExpressions::read_listed))]
     pub fn listed(&self, square: bool, at: usize) -> Result<Read<Seq<Expr>>, Unread>
         requires { Nests self.now E.pre E.post S.pre S.post }
-        ensures reads { Gives (read_of trees) result (read.read_listed (source self.now.reader) square ((nested self.now.reader self.now.room).expr assignment_level) at) }
+        ensures reads { Gives (read_of trees) result (read.read_listed (source self.now.reader) square
+            ((nested self.now.reader self.now.room).expr assignment_level) at) }
         ensures nesting { IfOk result (λ r. r.nesting ≡ deepest_tree (trees r.item)) }
         ensures fits { IfOk result (λ r. r.nesting ≤ self.now.room) }
     {
@@ -70,7 +73,8 @@ impl<
     #[tactic(auto, unfolding(sts_grammar::specs::ReadExpressions::read_arguments))]
     pub fn arguments(&self, at: usize) -> Result<Read<Seq<Expr>>, Unread>
         requires { Nests self.now E.pre E.post S.pre S.post }
-        ensures reads { Gives (read_of trees) result (read.read_arguments (source self.now.reader) ((nested self.now.reader self.now.room).expr assignment_level) at) }
+        ensures reads { Gives (read_of trees) result (read.read_arguments (source self.now.reader)
+            ((nested self.now.reader self.now.room).expr assignment_level) at) }
         ensures nesting { IfOk result (λ r. r.nesting ≡ deepest_tree (trees r.item)) }
         ensures fits { IfOk result (λ r. r.nesting ≤ self.now.room) }
     {
@@ -88,7 +92,9 @@ impl<
         at: usize,
     ) -> Result<Read<Seq<Stmt>>, Unread>
         requires { Nests self.now E.pre E.post S.pre S.post }
-        ensures reads { Gives (read_of statements) result (read.read_statements (source self.now.reader) ((nested self.now.reader self.now.room).stmt in_function in_loop) (length self.now.reader.tokens.now) done at) }
+        ensures reads { Gives (read_of statements) result (read.read_statements (source self.now.reader)
+            ((nested self.now.reader self.now.room).stmt in_function in_loop)
+            (length self.now.reader.tokens.now) done at) }
         ensures nesting { IfOk result (λ r. r.nesting ≡ deepest_statement (statements r.item)) }
         ensures fits { IfOk result (λ r. r.nesting ≤ self.now.room) }
     {
@@ -119,7 +125,8 @@ impl<
         at: usize,
     ) -> Result<Read<Seq<Stmt>>, Unread>
         requires { Nests self.now E.pre E.post S.pre S.post }
-        ensures reads { Gives (read_of statements) result (read.read_block (source self.now.reader) ((nested self.now.reader self.now.room).stmt in_function in_loop) at) }
+        ensures reads { Gives (read_of statements) result (read.read_block (source self.now.reader)
+            ((nested self.now.reader self.now.room).stmt in_function in_loop) at) }
         ensures nesting { IfOk result (λ r. r.nesting ≡ deepest_statement (statements r.item)) }
         ensures fits { IfOk result (λ r. r.nesting ≤ self.now.room) }
     {

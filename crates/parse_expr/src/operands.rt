@@ -55,7 +55,8 @@ impl<
         at: usize,
     ) -> Result<Read<Expr>, Unread>
         requires { Nests self.now E.pre E.post S.pre S.post }
-        ensures reads { Gives (read_of tree) result (read.read_handler (source self.now.reader) (nested self.now.reader self.now.room) place arrow (parts heading) at) }
+        ensures reads { Gives (read_of tree) result (read.read_handler (source self.now.reader)
+            (nested self.now.reader self.now.room) place arrow (parts heading) at) }
         ensures nesting { IfOk result (λ r. r.nesting ≡ nesting (tree r.item)) }
         ensures fits { IfOk result (λ r. r.nesting ≤ self.now.room + 1) }
     {
@@ -91,7 +92,8 @@ impl<
     fn prefixed(&self, at: usize, op: Option<u8>, by: Option<i32>) -> Result<Read<Expr>, Unread>
         requires nests { Nests self.now E.pre E.post S.pre S.post }
         requires here { at < usize.MAX }
-        ensures reads { Gives (read_of tree) result (read.read_prefix (source self.now.reader) (nested self.now.reader self.now.room) at op by) }
+        ensures reads { Gives (read_of tree) result
+            (read.read_prefix (source self.now.reader) (nested self.now.reader self.now.room) at op by) }
         ensures nesting { IfOk result (λ r. r.nesting ≡ nesting (tree r.item)) }
         ensures fits { IfOk result (λ r. r.nesting ≤ self.now.room + 1) }
     {
@@ -114,7 +116,8 @@ impl<
     fn items(&self, at: usize) -> Result<Read<Expr>, Unread>
         requires nests { Nests self.now E.pre E.post S.pre S.post }
         requires here { at < usize.MAX }
-        ensures reads { Gives (read_of tree) result (read.read_mark (source self.now.reader) (nested self.now.reader self.now.room) at Mark.OpenBracket) }
+        ensures reads { Gives (read_of tree) result
+            (read.read_mark (source self.now.reader) (nested self.now.reader self.now.room) at Mark.OpenBracket) }
         ensures nesting { IfOk result (λ r. r.nesting ≡ nesting (tree r.item)) }
         ensures fits { IfOk result (λ r. r.nesting ≤ self.now.room + 1) }
     {
@@ -129,7 +132,8 @@ impl<
     /// An arrow.
     fn arrow(&self, at: usize) -> Result<Read<Expr>, Unread>
         requires { Nests self.now E.pre E.post S.pre S.post }
-        ensures reads { Gives (read_of tree) result (read.read_mark (source self.now.reader) (nested self.now.reader self.now.room) at Mark.OpenParenthesis) }
+        ensures reads { Gives (read_of tree) result
+            (read.read_mark (source self.now.reader) (nested self.now.reader self.now.room) at Mark.OpenParenthesis) }
         ensures nesting { IfOk result (λ r. r.nesting ≡ nesting (tree r.item)) }
         ensures fits { IfOk result (λ r. r.nesting ≤ self.now.room + 1) }
     {
@@ -141,7 +145,8 @@ impl<
     fn by_mark(&self, mark: Mark, at: usize) -> Result<Read<Expr>, Unread>
         requires nests { Nests self.now E.pre E.post S.pre S.post }
         requires here { at < usize.MAX }
-        ensures reads { Gives (read_of tree) result (read.read_mark (source self.now.reader) (nested self.now.reader self.now.room) at mark) }
+        ensures reads { Gives (read_of tree) result
+            (read.read_mark (source self.now.reader) (nested self.now.reader self.now.room) at mark) }
         ensures nesting { IfOk result (λ r. r.nesting ≡ nesting (tree r.item)) }
         ensures fits { IfOk result (λ r. r.nesting ≤ self.now.room + 1) }
     {
@@ -156,7 +161,8 @@ impl<
     fn super_call(&self, at: usize) -> Result<Read<Expr>, Unread>
         requires nests { Nests self.now E.pre E.post S.pre S.post }
         requires here { at < usize.MAX }
-        ensures reads { Gives (read_of tree) result (read.read_word (source self.now.reader) (nested self.now.reader self.now.room) at Word.Super) }
+        ensures reads { Gives (read_of tree) result
+            (read.read_word (source self.now.reader) (nested self.now.reader self.now.room) at Word.Super) }
         ensures nesting { IfOk result (λ r. r.nesting ≡ nesting (tree r.item)) }
         ensures fits { IfOk result (λ r. r.nesting ≤ self.now.room + 1) }
     {
@@ -182,7 +188,8 @@ impl<
     fn make(&self, at: usize) -> Result<Read<Expr>, Unread>
         requires nests { Nests self.now E.pre E.post S.pre S.post }
         requires here { at < usize.MAX }
-        ensures reads { Gives (read_of tree) result (read.read_word (source self.now.reader) (nested self.now.reader self.now.room) at Word.New) }
+        ensures reads { Gives (read_of tree) result
+            (read.read_word (source self.now.reader) (nested self.now.reader self.now.room) at Word.New) }
         ensures nesting { IfOk result (λ r. r.nesting ≡ nesting (tree r.item)) }
         ensures fits { IfOk result (λ r. r.nesting ≤ self.now.room + 1) }
     {
@@ -199,7 +206,8 @@ impl<
     fn function(&self, at: usize) -> Result<Read<Expr>, Unread>
         requires nests { Nests self.now E.pre E.post S.pre S.post }
         requires here { at < usize.MAX }
-        ensures reads { Gives (read_of tree) result (read.read_word (source self.now.reader) (nested self.now.reader self.now.room) at Word.Function) }
+        ensures reads { Gives (read_of tree) result
+            (read.read_word (source self.now.reader) (nested self.now.reader self.now.room) at Word.Function) }
         ensures nesting { IfOk result (λ r. r.nesting ≡ nesting (tree r.item)) }
         ensures fits { IfOk result (λ r. r.nesting ≤ self.now.room + 1) }
     {
@@ -211,7 +219,8 @@ impl<
     fn by_word(&self, word: Word, at: usize) -> Result<Read<Expr>, Unread>
         requires nests { Nests self.now E.pre E.post S.pre S.post }
         requires here { at < usize.MAX }
-        ensures reads { Gives (read_of tree) result (read.read_word (source self.now.reader) (nested self.now.reader self.now.room) at word) }
+        ensures reads { Gives (read_of tree) result
+            (read.read_word (source self.now.reader) (nested self.now.reader self.now.room) at word) }
         ensures nesting { IfOk result (λ r. r.nesting ≡ nesting (tree r.item)) }
         ensures fits { IfOk result (λ r. r.nesting ≤ self.now.room + 1) }
     {
@@ -231,7 +240,8 @@ impl<
     /// A primary without parentheses round it, or a prefix operator and its operand.
     fn primary(&self, at: usize) -> Result<Read<Expr>, Unread>
         requires { Nests self.now E.pre E.post S.pre S.post }
-        ensures reads { Gives (read_of tree) result (read.read_primary (source self.now.reader) (nested self.now.reader self.now.room) at (source.kind (source self.now.reader) at)) }
+        ensures reads { Gives (read_of tree) result (read.read_primary (source self.now.reader)
+            (nested self.now.reader self.now.room) at (source.kind (source self.now.reader) at)) }
         ensures nesting { IfOk result (λ r. r.nesting ≡ nesting (tree r.item)) }
         ensures fits { IfOk result (λ r. r.nesting ≤ self.now.room + 1) }
     {
@@ -273,7 +283,8 @@ impl<
         requires here { from + closing ≤ usize.MAX }
         requires weighed { first.nesting ≡ nesting (tree first.item) }
         requires small { first.nesting ≤ self.now.room + 1 }
-        ensures reads { Gives (read_of tree) result (read.unwind (source self.now.reader) self.now.reader.upto self.now.room (nested self.now.reader self.now.room) closing level from (tree first.item) first.end) }
+        ensures reads { Gives (read_of tree) result (read.unwind (source self.now.reader) self.now.reader.upto
+            self.now.room (nested self.now.reader self.now.room) closing level from (tree first.item) first.end) }
         ensures nesting { IfOk result (λ r. r.nesting ≡ nesting (tree r.item)) }
         ensures fits { IfOk result (λ r. r.nesting ≤ self.now.room + 1) }
     {
@@ -299,7 +310,8 @@ impl<
     #[tactic(auto, unfolding(sts_grammar::specs::ReadExpressions::read_operand, sts_grammar::specs::ReadExpressions::read_inside))]
     pub fn operand(&self, level: u8, at: usize) -> Result<Read<Expr>, Unread>
         requires { Nests self.now E.pre E.post S.pre S.post }
-        ensures reads { Gives (read_of tree) result (read.read_operand (source self.now.reader) self.now.reader.upto self.now.room (nested self.now.reader self.now.room) level at) }
+        ensures reads { Gives (read_of tree) result (read.read_operand (source self.now.reader) self.now.reader.upto
+            self.now.room (nested self.now.reader self.now.room) level at) }
         ensures nesting { IfOk result (λ r. r.nesting ≡ nesting (tree r.item)) }
         ensures fits { IfOk result (λ r. r.nesting ≤ self.now.room + 1) }
     {

@@ -72,8 +72,10 @@ fn bounded(
     from: usize,
 ) -> Result<Read<Expr>, Unread>
     requires { 0 < upto }
-    ensures found { IfOk result (λ r. reading.expression (texts.source tokens.now tables.now) upto most_nesting assignment_level from ≡ Some (tree r.item, r.end)) }
-    ensures none { IfErr result (UnreadFor ((e : Tree) → IsExpression (texts.source tokens.now tables.now) e from upto → nesting e ≤ most_nesting → ⊥)) }
+    ensures found { IfOk result (λ r. reading.expression
+        (texts.source tokens.now tables.now) upto most_nesting assignment_level from ≡ Some (tree r.item, r.end)) }
+    ensures none { IfErr result (UnreadFor ((e : Tree) → IsExpression (texts.source tokens.now tables.now) e from upto
+        → nesting e ≤ most_nesting → ⊥)) }
 {
     let reader = Reader {
         alloc,
@@ -99,7 +101,8 @@ pub fn parse_expr(
 ) -> Result<(Expr, usize), Refused>
     requires { from < length tokens.now }
     ensures longest { IfOk result (λ r. IsLongestExpression (texts.source tokens.now tables.now) from (tree r.0) r.1) }
-    ensures refused { IfErr result (RefusedFor (texts.source tokens.now tables.now) (NoExpression (texts.source tokens.now tables.now) from)) }
+    ensures refused { IfErr result
+        (RefusedFor (texts.source tokens.now tables.now) (NoExpression (texts.source tokens.now tables.now) from)) }
 {
     let mut upto = tokens.len();
     while upto > from {
@@ -132,8 +135,10 @@ pub fn parse_stmt(
     in_loop: bool,
 ) -> Result<(Stmt, usize), Refused>
     requires { from < length tokens.now }
-    ensures longest { IfOk result (λ r. IsLongestStatement (texts.source tokens.now tables.now) in_function in_loop from (statement r.0) r.1) }
-    ensures refused { IfErr result (RefusedFor (texts.source tokens.now tables.now) (NoStatement (texts.source tokens.now tables.now) in_function in_loop from)) }
+    ensures longest { IfOk result
+        (λ r. IsLongestStatement (texts.source tokens.now tables.now) in_function in_loop from (statement r.0) r.1) }
+    ensures refused { IfErr result (RefusedFor (texts.source tokens.now tables.now)
+        (NoStatement (texts.source tokens.now tables.now) in_function in_loop from)) }
 {
     let reader = Reader {
         alloc,
@@ -156,7 +161,8 @@ pub fn block(
     at: usize,
 ) -> Result<Read<Seq<Stmt>>, Unread>
     requires { room < usize.MAX }
-    ensures reads { Gives (read_of statements) result (read_block (source reader.entry) (reading.statement (source reader.entry) room in_function in_loop) at) }
+    ensures reads { Gives (read_of statements) result
+        (read_block (source reader.entry) (reading.statement (source reader.entry) room in_function in_loop) at) }
     ensures nesting { IfOk result (λ r. r.nesting ≡ deepest_statement (statements r.item)) }
     ensures fits { IfOk result (λ r. r.nesting ≤ room) }
 {
@@ -177,7 +183,9 @@ pub fn initialiser(
     at: usize,
 ) -> Result<Read<Option<Expr>>, Unread>
     requires { room < usize.MAX }
-    ensures reads { Gives (read_of optional_expression) result (read_initialiser (reading.expression (source reader.entry) (length reader.entry.tokens.now) room assignment_level) fixed (source.is_mark Mark.Assign (source.kind (source reader.entry) at)) at) }
+    ensures reads { Gives (read_of optional_expression) result
+        (read_initialiser (reading.expression (source reader.entry) (length reader.entry.tokens.now) room
+        assignment_level) fixed (source.is_mark Mark.Assign (source.kind (source reader.entry) at)) at) }
     ensures nesting { IfOk result (λ r. r.nesting ≡ optional_nesting (optional_expression r.item)) }
     ensures fits { IfOk result (λ r. r.nesting ≤ room) }
 {

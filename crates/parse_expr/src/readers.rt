@@ -17,7 +17,8 @@ pub fn expression<'a>(
     level: u8,
     at: usize,
 ) -> Result<Read<Expr>, Unread>
-    ensures reads { Gives (read_of tree) result (reading.expression (source reader.entry) reader.entry.upto room level at) }
+    ensures reads { Gives (read_of tree) result
+        (reading.expression (source reader.entry) reader.entry.upto room level at) }
     ensures nesting { IfOk result (λ r. r.nesting ≡ nesting (tree r.item)) }
     ensures fits { IfOk result (λ r. r.nesting ≤ room) }
 {
@@ -42,7 +43,8 @@ pub fn statement<'a>(
     in_loop: bool,
     at: usize,
 ) -> Result<Read<Stmt>, Unread>
-    ensures reads { Gives (read_of statement) result (reading.statement (source reader.entry) room in_function in_loop at) }
+    ensures reads { Gives (read_of statement) result
+        (reading.statement (source reader.entry) room in_function in_loop at) }
     ensures nesting { IfOk result (λ r. r.nesting ≡ statement_nesting (statement r.item)) }
     ensures fits { IfOk result (λ r. r.nesting ≤ room) }
 {

@@ -25,7 +25,8 @@ impl<
     #[tactic(auto, unfolding(sts_grammar::specs::ReadStatements::read_condition))]
     pub fn condition(&self, at: usize) -> Result<Read<Expr>, Unread>
         requires { Nests self.now E.pre E.post S.pre S.post }
-        ensures reads { Gives (read_of tree) result (read.read_condition (source self.now.reader) ((nested self.now.reader self.now.room).expr assignment_level) at) }
+        ensures reads { Gives (read_of tree) result (read.read_condition (source self.now.reader)
+            ((nested self.now.reader self.now.room).expr assignment_level) at) }
         ensures nesting { IfOk result (λ r. r.nesting ≡ nesting (tree r.item)) }
         ensures fits { IfOk result (λ r. r.nesting ≤ self.now.room) }
     {
@@ -47,7 +48,8 @@ impl<
     #[tactic(auto, unfolding(sts_grammar::specs::ReadStatements::read_plain))]
     fn plain(&self, at: usize) -> Result<Read<Stmt>, Unread>
         requires { Nests self.now E.pre E.post S.pre S.post }
-        ensures reads { Gives (read_of statement) result (read.read_plain (source self.now.reader) (nested self.now.reader self.now.room) at) }
+        ensures reads { Gives (read_of statement) result
+            (read.read_plain (source self.now.reader) (nested self.now.reader self.now.room) at) }
         ensures nesting { IfOk result (λ r. r.nesting ≡ statement_nesting (statement r.item)) }
         ensures fits { IfOk result (λ r. r.nesting ≤ self.now.room + 1) }
     {
@@ -67,7 +69,8 @@ impl<
     #[tactic(auto, unfolding(sts_grammar::specs::ReadStatements::read_let_statement))]
     fn declaring(&self, place: u32, fixed: bool, at: usize) -> Result<Read<Stmt>, Unread>
         requires { Nests self.now E.pre E.post S.pre S.post }
-        ensures reads { Gives (read_of statement) result (read.read_let_statement (source self.now.reader) self.now.room (nested self.now.reader self.now.room) place fixed at) }
+        ensures reads { Gives (read_of statement) result (read.read_let_statement (source self.now.reader) self.now.room
+            (nested self.now.reader self.now.room) place fixed at) }
         ensures nesting { IfOk result (λ r. r.nesting ≡ statement_nesting (statement r.item)) }
         ensures fits { IfOk result (λ r. r.nesting ≤ self.now.room + 1) }
     {
@@ -101,7 +104,8 @@ impl<
         requires a_small { a.nesting ≤ self.now.room }
         requires b_weighed { b.nesting ≡ statement_nesting (statement b.item) }
         requires b_small { b.nesting ≤ self.now.room }
-        ensures reads { Gives (read_of statement) result (Some (t.IfElse place (tree test.item) (statement a.item) (statement b.item), b.end)) }
+        ensures reads { Gives (read_of statement) result
+            (Some (t.IfElse place (tree test.item) (statement a.item) (statement b.item), b.end)) }
         ensures nesting { IfOk result (λ r. r.nesting ≡ statement_nesting (statement r.item)) }
         ensures fits { IfOk result (λ r. r.nesting ≤ self.now.room + 1) }
     {
@@ -128,7 +132,8 @@ impl<
         requires test_small { test.nesting ≤ self.now.room }
         requires a_weighed { a.nesting ≡ statement_nesting (statement a.item) }
         requires a_small { a.nesting ≤ self.now.room }
-        ensures reads { Gives (read_of statement) result (read.read_else ((nested self.now.reader self.now.room).stmt in_function in_loop) place (tree test.item) (statement a.item) a.end true) }
+        ensures reads { Gives (read_of statement) result (read.read_else ((nested self.now.reader self.now.room).stmt
+            in_function in_loop) place (tree test.item) (statement a.item) a.end true) }
         ensures nesting { IfOk result (λ r. r.nesting ≡ statement_nesting (statement r.item)) }
         ensures fits { IfOk result (λ r. r.nesting ≤ self.now.room + 1) }
     {
@@ -152,7 +157,9 @@ impl<
         requires test_small { test.nesting ≤ self.now.room }
         requires a_weighed { a.nesting ≡ statement_nesting (statement a.item) }
         requires a_small { a.nesting ≤ self.now.room }
-        ensures reads { Gives (read_of statement) result (read.read_else ((nested self.now.reader self.now.room).stmt in_function in_loop) place (tree test.item) (statement a.item) a.end (source.is_word Word.Else (source.kind (source self.now.reader) a.end))) }
+        ensures reads { Gives (read_of statement) result
+            (read.read_else ((nested self.now.reader self.now.room).stmt in_function in_loop) place (tree test.item)
+            (statement a.item) a.end (source.is_word Word.Else (source.kind (source self.now.reader) a.end))) }
         ensures nesting { IfOk result (λ r. r.nesting ≡ statement_nesting (statement r.item)) }
         ensures fits { IfOk result (λ r. r.nesting ≤ self.now.room + 1) }
     {
@@ -176,7 +183,8 @@ impl<
         at: usize,
     ) -> Result<Read<Stmt>, Unread>
         requires { Nests self.now E.pre E.post S.pre S.post }
-        ensures reads { Gives (read_of statement) result (read.read_if (source self.now.reader) (nested self.now.reader self.now.room) in_function in_loop place at) }
+        ensures reads { Gives (read_of statement) result (read.read_if (source self.now.reader)
+            (nested self.now.reader self.now.room) in_function in_loop place at) }
         ensures nesting { IfOk result (λ r. r.nesting ≡ statement_nesting (statement r.item)) }
         ensures fits { IfOk result (λ r. r.nesting ≤ self.now.room + 1) }
     {
@@ -192,7 +200,8 @@ impl<
     #[tactic(auto, unfolding(sts_grammar::specs::ReadStatements::read_while))]
     fn repeating(&self, in_function: bool, place: u32, at: usize) -> Result<Read<Stmt>, Unread>
         requires { Nests self.now E.pre E.post S.pre S.post }
-        ensures reads { Gives (read_of statement) result (read.read_while (source self.now.reader) (nested self.now.reader self.now.room) in_function place at) }
+        ensures reads { Gives (read_of statement) result
+            (read.read_while (source self.now.reader) (nested self.now.reader self.now.room) in_function place at) }
         ensures nesting { IfOk result (λ r. r.nesting ≡ statement_nesting (statement r.item)) }
         ensures fits { IfOk result (λ r. r.nesting ≤ self.now.room + 1) }
     {
@@ -212,7 +221,8 @@ impl<
     #[tactic(auto, unfolding(sts_grammar::specs::ReadStatements::read_do))]
     fn doing(&self, in_function: bool, place: u32, at: usize) -> Result<Read<Stmt>, Unread>
         requires { Nests self.now E.pre E.post S.pre S.post }
-        ensures reads { Gives (read_of statement) result (read.read_do (source self.now.reader) (nested self.now.reader self.now.room) in_function place at) }
+        ensures reads { Gives (read_of statement) result
+            (read.read_do (source self.now.reader) (nested self.now.reader self.now.room) in_function place at) }
         ensures nesting { IfOk result (λ r. r.nesting ≡ statement_nesting (statement r.item)) }
         ensures fits { IfOk result (λ r. r.nesting ≤ self.now.room + 1) }
     {
@@ -234,7 +244,8 @@ impl<
     /// What stands behind a `return`.
     fn returning(&self, place: u32, at: usize) -> Result<Read<Stmt>, Unread>
         requires { Nests self.now E.pre E.post S.pre S.post }
-        ensures reads { Gives (read_of statement) result (read.read_returned (source self.now.reader) (nested self.now.reader self.now.room) place at (read.read_end (source self.now.reader) at)) }
+        ensures reads { Gives (read_of statement) result (read.read_returned (source self.now.reader)
+            (nested self.now.reader self.now.room) place at (read.read_end (source self.now.reader) at)) }
         ensures nesting { IfOk result (λ r. r.nesting ≡ statement_nesting (statement r.item)) }
         ensures fits { IfOk result (λ r. r.nesting ≤ self.now.room + 1) }
     {
@@ -261,7 +272,8 @@ impl<
     fn breaking(&self, in_loop: bool, at: usize) -> Result<Read<Stmt>, Unread>
         requires nests { Nests self.now E.pre E.post S.pre S.post }
         requires here { at < usize.MAX }
-        ensures reads { Gives (read_of statement) result (read.read_word_statement (source self.now.reader) self.now.room (nested self.now.reader self.now.room) true in_loop at Word.Break) }
+        ensures reads { Gives (read_of statement) result (read.read_word_statement (source self.now.reader)
+            self.now.room (nested self.now.reader self.now.room) true in_loop at Word.Break) }
         ensures nesting { IfOk result (λ r. r.nesting ≡ statement_nesting (statement r.item)) }
         ensures fits { IfOk result (λ r. r.nesting ≤ self.now.room + 1) }
     {
@@ -283,7 +295,8 @@ impl<
     fn continuing(&self, in_loop: bool, at: usize) -> Result<Read<Stmt>, Unread>
         requires nests { Nests self.now E.pre E.post S.pre S.post }
         requires here { at < usize.MAX }
-        ensures reads { Gives (read_of statement) result (read.read_word_statement (source self.now.reader) self.now.room (nested self.now.reader self.now.room) true in_loop at Word.Continue) }
+        ensures reads { Gives (read_of statement) result (read.read_word_statement (source self.now.reader)
+            self.now.room (nested self.now.reader self.now.room) true in_loop at Word.Continue) }
         ensures nesting { IfOk result (λ r. r.nesting ≡ statement_nesting (statement r.item)) }
         ensures fits { IfOk result (λ r. r.nesting ≤ self.now.room + 1) }
     {
@@ -311,7 +324,8 @@ impl<
     ) -> Result<Read<Stmt>, Unread>
         requires nests { Nests self.now E.pre E.post S.pre S.post }
         requires here { at < usize.MAX }
-        ensures reads { Gives (read_of statement) result (read.read_word_statement (source self.now.reader) self.now.room (nested self.now.reader self.now.room) in_function in_loop at word) }
+        ensures reads { Gives (read_of statement) result (read.read_word_statement (source self.now.reader)
+            self.now.room (nested self.now.reader self.now.room) in_function in_loop at word) }
         ensures nesting { IfOk result (λ r. r.nesting ≡ statement_nesting (statement r.item)) }
         ensures fits { IfOk result (λ r. r.nesting ≤ self.now.room + 1) }
     {
@@ -345,7 +359,8 @@ impl<
         at: usize,
     ) -> Result<Read<Stmt>, Unread>
         requires { Nests self.now E.pre E.post S.pre S.post }
-        ensures reads { Gives (read_of statement) result (read.read_statement (source self.now.reader) self.now.room (nested self.now.reader self.now.room) in_function in_loop at (source.kind (source self.now.reader) at)) }
+        ensures reads { Gives (read_of statement) result (read.read_statement (source self.now.reader) self.now.room
+            (nested self.now.reader self.now.room) in_function in_loop at (source.kind (source self.now.reader) at)) }
         ensures nesting { IfOk result (λ r. r.nesting ≡ statement_nesting (statement r.item)) }
         ensures fits { IfOk result (λ r. r.nesting ≤ self.now.room + 1) }
     {

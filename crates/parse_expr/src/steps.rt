@@ -27,7 +27,8 @@ impl<
         requires here { e.end < usize.MAX }
         requires weighed { e.nesting ≡ nesting (tree e.item) }
         requires small { e.nesting ≤ self.now.room }
-        ensures reads { Gives (read_of tree) result (read.read_further (source self.now.reader) (nested self.now.reader self.now.room) place (tree e.item) e.end Mark.Dot) }
+        ensures reads { Gives (read_of tree) result (read.read_further (source self.now.reader)
+            (nested self.now.reader self.now.room) place (tree e.item) e.end Mark.Dot) }
         ensures nesting { IfOk result (λ r. r.nesting ≡ nesting (tree r.item)) }
         ensures fits { IfOk result (λ r. r.nesting ≤ self.now.room + 1) }
     {
@@ -48,7 +49,8 @@ impl<
         requires here { e.end < usize.MAX }
         requires weighed { e.nesting ≡ nesting (tree e.item) }
         requires small { e.nesting ≤ self.now.room }
-        ensures reads { Gives (read_of tree) result (read.read_further (source self.now.reader) (nested self.now.reader self.now.room) place (tree e.item) e.end Mark.OpenBracket) }
+        ensures reads { Gives (read_of tree) result (read.read_further (source self.now.reader)
+            (nested self.now.reader self.now.room) place (tree e.item) e.end Mark.OpenBracket) }
         ensures nesting { IfOk result (λ r. r.nesting ≡ nesting (tree r.item)) }
         ensures fits { IfOk result (λ r. r.nesting ≤ self.now.room + 1) }
     {
@@ -72,7 +74,8 @@ impl<
         requires here { e.end < usize.MAX }
         requires weighed { e.nesting ≡ nesting (tree e.item) }
         requires small { e.nesting ≤ self.now.room }
-        ensures reads { Gives (read_of tree) result (read.read_further (source self.now.reader) (nested self.now.reader self.now.room) place (tree e.item) e.end Mark.OpenParenthesis) }
+        ensures reads { Gives (read_of tree) result (read.read_further (source self.now.reader)
+            (nested self.now.reader self.now.room) place (tree e.item) e.end Mark.OpenParenthesis) }
         ensures nesting { IfOk result (λ r. r.nesting ≡ nesting (tree r.item)) }
         ensures fits { IfOk result (λ r. r.nesting ≤ self.now.room + 1) }
     {
@@ -94,7 +97,8 @@ impl<
         requires here { e.end < usize.MAX }
         requires weighed { e.nesting ≡ nesting (tree e.item) }
         requires small { e.nesting ≤ self.now.room }
-        ensures reads { Gives (read_of tree) result (read.read_further (source self.now.reader) (nested self.now.reader self.now.room) place (tree e.item) e.end Mark.Question) }
+        ensures reads { Gives (read_of tree) result (read.read_further (source self.now.reader)
+            (nested self.now.reader self.now.room) place (tree e.item) e.end Mark.Question) }
         ensures nesting { IfOk result (λ r. r.nesting ≡ nesting (tree r.item)) }
         ensures fits { IfOk result (λ r. r.nesting ≤ self.now.room + 1) }
     {
@@ -122,7 +126,8 @@ impl<
         requires here { e.end < usize.MAX }
         requires weighed { e.nesting ≡ nesting (tree e.item) }
         requires small { e.nesting ≤ self.now.room }
-        ensures reads { Gives (read_of tree) result (read.read_further (source self.now.reader) (nested self.now.reader self.now.room) place (tree e.item) e.end Mark.BarBar) }
+        ensures reads { Gives (read_of tree) result (read.read_further (source self.now.reader)
+            (nested self.now.reader self.now.room) place (tree e.item) e.end Mark.BarBar) }
         ensures nesting { IfOk result (λ r. r.nesting ≡ nesting (tree r.item)) }
         ensures fits { IfOk result (λ r. r.nesting ≤ self.now.room + 1) }
     {
@@ -143,7 +148,8 @@ impl<
         requires here { e.end < usize.MAX }
         requires weighed { e.nesting ≡ nesting (tree e.item) }
         requires small { e.nesting ≤ self.now.room }
-        ensures reads { Gives (read_of tree) result (read.read_further (source self.now.reader) (nested self.now.reader self.now.room) place (tree e.item) e.end Mark.AmpersandAmpersand) }
+        ensures reads { Gives (read_of tree) result (read.read_further (source self.now.reader)
+            (nested self.now.reader self.now.room) place (tree e.item) e.end Mark.AmpersandAmpersand) }
         ensures nesting { IfOk result (λ r. r.nesting ≡ nesting (tree r.item)) }
         ensures fits { IfOk result (λ r. r.nesting ≤ self.now.room + 1) }
     {
@@ -164,7 +170,8 @@ impl<
         requires here { e.end < usize.MAX }
         requires weighed { e.nesting ≡ nesting (tree e.item) }
         requires small { e.nesting ≤ self.now.room }
-        ensures reads { Gives (read_of tree) result (read.read_operator (nested self.now.reader self.now.room) place (tree e.item) e.end (Some op) None None) }
+        ensures reads { Gives (read_of tree) result
+            (read.read_operator (nested self.now.reader self.now.room) place (tree e.item) e.end (Some op) None None) }
         ensures nesting { IfOk result (λ r. r.nesting ≡ nesting (tree r.item)) }
         ensures fits { IfOk result (λ r. r.nesting ≤ self.now.room + 1) }
     {
@@ -185,7 +192,8 @@ impl<
         requires here { e.end < usize.MAX }
         requires weighed { e.nesting ≡ nesting (tree e.item) }
         requires small { e.nesting ≤ self.now.room }
-        ensures reads { Gives (read_of tree) result (read.read_operator (nested self.now.reader self.now.room) place (tree e.item) e.end None (Some op) None) }
+        ensures reads { Gives (read_of tree) result
+            (read.read_operator (nested self.now.reader self.now.room) place (tree e.item) e.end None (Some op) None) }
         ensures nesting { IfOk result (λ r. r.nesting ≡ nesting (tree r.item)) }
         ensures fits { IfOk result (λ r. r.nesting ≤ self.now.room + 1) }
     {
@@ -209,7 +217,8 @@ impl<
         requires here { e.end < usize.MAX }
         requires weighed { e.nesting ≡ nesting (tree e.item) }
         requires small { e.nesting ≤ self.now.room }
-        ensures reads { Gives (read_of tree) result (read.read_operator (nested self.now.reader self.now.room) place (tree e.item) e.end None None (Some by)) }
+        ensures reads { Gives (read_of tree) result
+            (read.read_operator (nested self.now.reader self.now.room) place (tree e.item) e.end None None (Some by)) }
         ensures nesting { IfOk result (λ r. r.nesting ≡ nesting (tree r.item)) }
         ensures fits { IfOk result (λ r. r.nesting ≤ self.now.room + 1) }
     {
@@ -236,7 +245,8 @@ impl<
         requires here { e.end < usize.MAX }
         requires weighed { e.nesting ≡ nesting (tree e.item) }
         requires small { e.nesting ≤ self.now.room }
-        ensures reads { Gives (read_of tree) result (read.read_operator (nested self.now.reader self.now.room) place (tree e.item) e.end op assigned by) }
+        ensures reads { Gives (read_of tree) result
+            (read.read_operator (nested self.now.reader self.now.room) place (tree e.item) e.end op assigned by) }
         ensures nesting { IfOk result (λ r. r.nesting ≡ nesting (tree r.item)) }
         ensures fits { IfOk result (λ r. r.nesting ≤ self.now.room + 1) }
     {
@@ -254,7 +264,8 @@ impl<
         requires here { e.end < usize.MAX }
         requires weighed { e.nesting ≡ nesting (tree e.item) }
         requires small { e.nesting ≤ self.now.room }
-        ensures reads { Gives (read_of tree) result (read.read_further (source self.now.reader) (nested self.now.reader self.now.room) place (tree e.item) e.end mark) }
+        ensures reads { Gives (read_of tree) result (read.read_further (source self.now.reader)
+            (nested self.now.reader self.now.room) place (tree e.item) e.end mark) }
         ensures nesting { IfOk result (λ r. r.nesting ≡ nesting (tree r.item)) }
         ensures fits { IfOk result (λ r. r.nesting ≤ self.now.room + 1) }
     {
@@ -280,7 +291,8 @@ impl<
         requires nests { Nests self.now E.pre E.post S.pre S.post }
         requires weighed { e.nesting ≡ nesting (tree e.item) }
         requires small { e.nesting ≤ self.now.room }
-        ensures reads { Gives (read_of tree) result (read.read_behind (source self.now.reader) (nested self.now.reader self.now.room) place (tree e.item) e.end (source.kind (source self.now.reader) e.end)) }
+        ensures reads { Gives (read_of tree) result (read.read_behind (source self.now.reader) (nested self.now.reader
+            self.now.room) place (tree e.item) e.end (source.kind (source self.now.reader) e.end)) }
         ensures nesting { IfOk result (λ r. r.nesting ≡ nesting (tree r.item)) }
         ensures fits { IfOk result (λ r. r.nesting ≤ self.now.room + 1) }
     {
@@ -296,7 +308,9 @@ impl<
         requires nests { Nests self.now E.pre E.post S.pre S.post }
         requires weighed { first.nesting ≡ nesting (tree first.item) }
         requires small { first.nesting ≤ self.now.room + 1 }
-        ensures reads { Gives (read_of tree) result (read.climb (source self.now.reader) self.now.reader.upto self.now.room (nested self.now.reader self.now.room) (self.now.room + 1) level place (tree first.item) first.end) }
+        ensures reads { Gives (read_of tree) result
+            (read.climb (source self.now.reader) self.now.reader.upto self.now.room
+            (nested self.now.reader self.now.room) (self.now.room + 1) level place (tree first.item) first.end) }
         ensures nesting { IfOk result (λ r. r.nesting ≡ nesting (tree r.item)) }
         ensures fits { IfOk result (λ r. r.nesting ≤ self.now.room + 1) }
     {

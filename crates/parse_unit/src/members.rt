@@ -64,7 +64,8 @@ pub fn read_routine(
     at: usize,
 ) -> Result<(Body, usize), Unread>
     requires { room < usize.MAX }
-    ensures { Gives (found routine) result (read.read_routine (source reader.entry) (statement_readers (source reader.entry) room) place at) }
+    ensures { Gives (found routine) result
+        (read.read_routine (source reader.entry) (statement_readers (source reader.entry) room) place at) }
 {
     let (heading, end) = reader.heading(at)?;
     let held = block(reader, room, true, false, end)?;
@@ -81,7 +82,8 @@ fn read_maker(
     at: usize,
 ) -> Result<(Member, usize), Unread>
     requires { room < usize.MAX }
-    ensures { Gives (found class_member) result (read.read_maker (source reader.entry) (statement_readers (source reader.entry) room) place at) }
+    ensures { Gives (found class_member) result
+        (read.read_maker (source reader.entry) (statement_readers (source reader.entry) room) place at) }
 {
     if !reader.is_mark(at, Mark::OpenParenthesis) {
         return Err(Unread::Syntax(at));
@@ -102,7 +104,8 @@ fn read_method(
     at: usize,
 ) -> Result<(Member, usize), Unread>
     requires { room < usize.MAX }
-    ensures { Gives (found class_member) result (read.read_method (source reader.entry) (statement_readers (source reader.entry) room) place name at) }
+    ensures { Gives (found class_member) result
+        (read.read_method (source reader.entry) (statement_readers (source reader.entry) room) place name at) }
 {
     let (body, end) = read_routine(reader, room, place, at)?;
     Ok((Member::Method { name, body }, end))
@@ -129,7 +132,8 @@ fn read_field(
     at: usize,
 ) -> Result<(Member, usize), Unread>
     requires { room < usize.MAX }
-    ensures { Gives (found class_member) result (read.read_field (source reader.entry) (statement_readers (source reader.entry) room) place name at) }
+    ensures { Gives (found class_member) result
+        (read.read_field (source reader.entry) (statement_readers (source reader.entry) room) place name at) }
 {
     let (shape, end) = reader.written_type(at)?;
     let first = initialiser(reader, room, false, end)?;
@@ -152,7 +156,8 @@ fn is_constructor(reader: Reader<'_>, at: usize) -> bool
 #[tactic(auto, unfolding(sts_grammar::specs::ReadUnits::read_named))]
 fn read_named(reader: Reader<'_>, room: usize, at: usize) -> Result<(Member, usize), Unread>
     requires { room < usize.MAX }
-    ensures { Gives (found class_member) result (read.read_named (source reader.entry) (statement_readers (source reader.entry) room) at) }
+    ensures { Gives (found class_member) result
+        (read.read_named (source reader.entry) (statement_readers (source reader.entry) room) at) }
 {
     let name = reader.member_name(at)?;
     let place = reader.place(at);
@@ -173,7 +178,8 @@ pub fn read_members(
     at: usize,
 ) -> Result<(Seq<Member>, usize), Unread>
     requires { room < usize.MAX }
-    ensures { Gives (found class_members) result (read.read_members (source reader.entry) (statement_readers (source reader.entry) room) (length reader.entry.tokens.now) [] at) }
+    ensures { Gives (found class_members) result (read.read_members (source reader.entry)
+        (statement_readers (source reader.entry) room) (length reader.entry.tokens.now) [] at) }
 {
     let mut all = Seq::new(reader.alloc);
     let mut next = at;

@@ -24,7 +24,8 @@ pub struct Base {
 
 /// The base of a class, where one is written, and the token behind it.
 fn read_base(reader: Reader<'_>, at: usize) -> Result<(Base, usize), Unread>
-    ensures { Gives (found base_of) result (read.read_base (source reader.entry) (source.is_word Word.Extends (source.kind (source reader.entry) at)) at) }
+    ensures { Gives (found base_of) result
+        (read.read_base (source reader.entry) (source.is_word Word.Extends (source.kind (source reader.entry) at)) at) }
 {
     if !reader.is_word(at, Word::Extends) {
         return Ok((Base { name: None, at: 0 }, at));
@@ -40,7 +41,8 @@ fn read_base(reader: Reader<'_>, at: usize) -> Result<(Base, usize), Unread>
 #[tactic(auto, unfolding(sts_grammar::specs::ReadUnits::read_class))]
 fn read_class(reader: Reader<'_>, room: usize, at: usize) -> Result<(Item, usize), Unread>
     requires { room < usize.MAX }
-    ensures { Gives (found top_level) result (read.read_class (source reader.entry) (statement_readers (source reader.entry) room) at) }
+    ensures { Gives (found top_level) result
+        (read.read_class (source reader.entry) (statement_readers (source reader.entry) room) at) }
 {
     let name = reader.name(at)?;
     let (base, end) = read_base(reader, at + 1)?;
@@ -62,7 +64,8 @@ fn read_class(reader: Reader<'_>, room: usize, at: usize) -> Result<(Item, usize
 #[tactic(auto, unfolding(sts_grammar::specs::ReadUnits::read_function))]
 fn read_function(reader: Reader<'_>, room: usize, at: usize) -> Result<(Item, usize), Unread>
     requires { room < usize.MAX }
-    ensures { Gives (found top_level) result (read.read_function (source reader.entry) (statement_readers (source reader.entry) room) at) }
+    ensures { Gives (found top_level) result
+        (read.read_function (source reader.entry) (statement_readers (source reader.entry) room) at) }
 {
     let name = reader.name(at)?;
     let (body, end) = read_routine(reader, room, reader.place(at), at + 1)?;
@@ -83,7 +86,8 @@ fn read_main(reader: Reader<'_>, room: usize, at: usize) -> Result<(Item, usize)
 fn read_part(reader: Reader<'_>, room: usize, at: usize) -> Result<(Item, usize), Unread>
     requires least { 2 ≤ room }
     requires most { room < usize.MAX }
-    ensures { Gives (found top_level) result (read.read_part (source reader.entry) room at (source.kind (source reader.entry) at)) }
+    ensures { Gives (found top_level) result
+        (read.read_part (source reader.entry) room at (source.kind (source reader.entry) at)) }
 {
     match reader.kind(at) {
         TokenKind::Word(Word::Class, _) => read_class(reader, room - 2, at + 1),
@@ -105,7 +109,8 @@ fn is_last(reader: Reader<'_>, at: usize) -> bool
 pub fn read_parts(reader: Reader<'_>, room: usize) -> Result<Seq<Item>, Unread>
     requires least { 2 ≤ room }
     requires most { room < usize.MAX }
-    ensures { Gives top_levels result (read.read_parts (source reader.entry) room (length reader.entry.tokens.now) [] 0) }
+    ensures { Gives top_levels result
+        (read.read_parts (source reader.entry) room (length reader.entry.tokens.now) [] 0) }
 {
     let mut all = Seq::new(reader.alloc);
     let mut next = 0;

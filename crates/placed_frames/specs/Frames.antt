@@ -55,9 +55,11 @@ outgoing_of code [] = 0
 outgoing_of code (f ∷ fs) = outgoing_at (slice_get code f.function)
 
 -- Is v w: the word w, in a register or in memory, stands for the value v. return_to: the return address to a frame that waits.
-module _ {V : Type 0} (Is : V → ℕ → Type 0) (code : List Function) (places : ℕ → ℕ → Place) (return_to : List (Frame V) → ℕ) (ws : List ℕ) where
+module _ {V : Type 0} (Is : V → ℕ → Type 0) (code : List Function)
+    (places : ℕ → ℕ → Place) (return_to : List (Frame V) → ℕ) (ws : List ℕ) where
   -- the frame of fn whose words begin at k, with r4 to r7 as it has them, holds what it needs
-  pub record HasFrame (fn : Function) (place : ℕ → Place) (need : ℕ → Type 0) (temps : ℕ → V) (fs : List (Frame V)) (kept : List ℕ) (k : ℕ) : Type 0 where
+  pub record HasFrame (fn : Function) (place : ℕ → Place) (need : ℕ → Type 0) (temps : ℕ → V) (fs : List (Frame V))
+      (kept : List ℕ) (k : ℕ) : Type 0 where
     pub temporary : (t : ℕ) → t < temporaries fn → need t → Is (temps t) (value fn kept ws k (place t))
     pub link : slice_index ws (k + own fn + 4) ≡ return_to fs
     pub params : fn.params ≤ outgoing_of code fs
@@ -72,10 +74,12 @@ module _ {V : Type 0} (Is : V → ℕ → Type 0) (code : List Function) (places
   HasFrames [] kept k = (k ≡ length ws) × AreWords kept
   HasFrames (f ∷ fs) kept k =
       HasWaiting (slice_get code f.function) f fs kept k
-      × HasFrames fs (saved_at (slice_get code f.function) (places f.function) kept ws k) (k + words_at (slice_get code f.function))
+      × HasFrames fs (saved_at (slice_get code f.function) (places f.function) kept ws k)
+      (k + words_at (slice_get code f.function))
 
 -- the running function and the frames above it
-pub record Running {V : Type 0} (Is : V → ℕ → Type 0) (code : List Function) (places : ℕ → ℕ → Place) (return_to : List (Frame V) → ℕ) (fn : Function)
+pub record Running {V : Type 0} (Is : V → ℕ → Type 0) (code : List Function) (places : ℕ → ℕ → Place)
+    (return_to : List (Frame V) → ℕ) (fn : Function)
     (place : ℕ → Place) (need : ℕ → Type 0) (temps : ℕ → V) (fs : List (Frame V)) (s : Store) : Type 0 where
   pub four : length s.kept ≡ 4
   pub frame : HasFrame Is code places return_to s.words fn place need temps fs s.kept 0

@@ -20,7 +20,8 @@ in_place None character = encode_utf8 0xFFFD
 in_place (Some width) character = encode_utf8 character
 
 abbrev pub as_shown : (behind character : ℕ) → List ℕ
-as_shown behind character = if character == 9 then replicate (stop - behind) 32 else in_place (char_width false character) character
+as_shown behind character =
+    if character == 9 then replicate (stop - behind) 32 else in_place (char_width false character) character
 
 -- as many spaces as it has columns
 abbrev pub blank_at : (behind character : ℕ) → List ℕ
@@ -29,4 +30,5 @@ blank_at behind character = replicate (columns behind character) 32
 -- characters one behind the other, each written by where it stands
 unfoldable pub written_from : (ℕ → ℕ → List ℕ) → ℕ → List ℕ → List ℕ
 written_from write behind [] = []
-written_from write behind (character ∷ characters) = write behind character ++ written_from write (behind_it behind character) characters
+written_from write behind (character ∷ characters) =
+    write behind character ++ written_from write (behind_it behind character) characters

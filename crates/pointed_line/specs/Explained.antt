@@ -25,7 +25,8 @@ pointed text at column =
 
 -- where the bracket stands that a sentence speaks of
 abbrev pub opened_at : (line column : ℕ) → List ℕ
-opened_at line column = codes " It is opened in line " ++ (decimal line ++ (codes ", column " ++ (decimal column ++ codes ".")))
+opened_at line column =
+    codes " It is opened in line " ++ (decimal line ++ (codes ", column " ++ (decimal column ++ codes ".")))
 
 abbrev pub opened_words : Option (ℕ × ℕ) → List ℕ
 opened_words None = []
@@ -38,4 +39,5 @@ example_line (byte ∷ bytes) = codes "for example: " ++ ((byte ∷ bytes) ++ co
 -- the whole, each part on lines of its own
 abbrev pub explained_text : Explanation → List ℕ → (at column : ℕ) → List ℕ
 explained_text said text at column =
-    said.sentence.now ++ (opened_words said.opened ++ (codes "\n" ++ (pointed text at column ++ example_line said.example.now)))
+    said.sentence.now
+    ++ (opened_words said.opened ++ (codes "\n" ++ (pointed text at column ++ example_line said.example.now)))

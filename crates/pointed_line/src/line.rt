@@ -58,7 +58,8 @@ fn push_shown(out: &mut String, behind: usize, character: char) -> Result<(), Al
 
 /// Adds a text as a terminal shows it.
 pub fn push_line(out: &mut String, text: &str) -> Result<(), AllocError>
-    ensures { OnOk result (string_bytes out.new ≡ string_bytes out.old ++ spec.written_from spec.as_shown 0 (chars text.now)) }
+    ensures { OnOk result
+        (string_bytes out.new ≡ string_bytes out.old ++ spec.written_from spec.as_shown 0 (chars text.now)) }
 {
     let mut behind = 0;
     for character in text.chars() {
@@ -70,7 +71,8 @@ pub fn push_line(out: &mut String, text: &str) -> Result<(), AllocError>
 
 /// Adds spaces that are as wide as a text.
 pub fn push_blank(out: &mut String, text: &str) -> Result<(), AllocError>
-    ensures { OnOk result (string_bytes out.new ≡ string_bytes out.old ++ spec.written_from spec.blank_at 0 (chars text.now)) }
+    ensures { OnOk result
+        (string_bytes out.new ≡ string_bytes out.old ++ spec.written_from spec.blank_at 0 (chars text.now)) }
 {
     let mut behind = 0;
     for character in text.chars() {

@@ -123,7 +123,8 @@ pub fn explained(
     line: u32,
     column: u32,
 ) -> Result<String, AllocError>
-    ensures { IfOk result (λ told. (at : ℕ) × (IsFound text.now line column at × (string_bytes told ≡ spec.explained_text said.now text.now at column))) }
+    ensures { IfOk result (λ told. (at : ℕ)
+        × (IsFound text.now line column at × (string_bytes told ≡ spec.explained_text said.now text.now at column))) }
 {
     let at = place_at(text, line, column);
     let mut out = String::from_str(alloc, said.sentence)?;

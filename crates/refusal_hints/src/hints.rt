@@ -19,7 +19,8 @@ impl Hints {
     /// What they say of a line and a column, both from 1, of a text: the first row that fits what stands around the place, else their own
     /// explanation. A line and column that the text hasn't stand for its end.
     pub fn explain(&self, text: &[u8], line: u32, column: u32) -> Explanation
-        ensures { (at : ℕ) × (IsFound text.now line column at × Explains (map (λ table. table.now) self.now.tables) self.now.own text.now at column result) }
+        ensures { (at : ℕ) × (IsFound text.now line column at
+            × Explains (map (λ table. table.now) self.now.tables) self.now.own text.now at column result) }
     {
         explain_by(&self.tables, self.own, text, line, column)
     }

@@ -31,11 +31,15 @@ pub record IsShapeSound (f : Function) (places : List Place) : Type 0 where
 
 -- an op doesn't write into the place of a temporary behind which a place is marked
 abbrev pub IsClear : Op → ℕ → List Place → ℕ → List Bool → Type 0
-IsClear op at places u marks = (t : ℕ) → writes op ≡ Some t → t < length places → place_of places u ≡ place_of places t → any_marked marks (goes_on at op) ≡ true → u ≡ t
+IsClear op at places u marks =
+    (t : ℕ) → writes op ≡ Some t → t < length places → place_of places u ≡ place_of places t
+    → any_marked marks (goes_on at op) ≡ true → u ≡ t
 
 -- no op writes into the place of a temporary that is live after it
 abbrev pub IsKept : List Op → List Place → ℕ → Type 0
-IsKept ops places u = (at t : ℕ) (op : Op) → slice_get ops at ≡ Some op → writes op ≡ Some t → IsLiveAfter ops u at → t < length places → place_of places u ≡ place_of places t → u ≡ t
+IsKept ops places u =
+    (at t : ℕ) (op : Op) → slice_get ops at ≡ Some op → writes op ≡ Some t → IsLiveAfter ops u at → t < length places
+    → place_of places u ≡ place_of places t → u ≡ t
 
 pub record IsTemporarySound (f : Function) (places : List Place) (u : ℕ) : Type 0 where
   pub entry : IsLiveAt f.ops u 0 → u < f.params

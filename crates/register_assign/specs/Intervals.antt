@@ -31,7 +31,8 @@ interval_of intervals t = slice_index_or intervals t (record { first = 0; end = 
 
 -- no temporary that has a register so far is busy while this one is
 abbrev pub IsFree : ℕ → List Place → List Interval → Interval → Type 0
-IsFree r places intervals interval = (u : ℕ) → u < length places → place_of places u ≡ Reg r → AreApart (interval_of intervals u) interval
+IsFree r places intervals interval =
+    (u : ℕ) → u < length places → place_of places u ≡ Reg r → AreApart (interval_of intervals u) interval
 
 -- the slot or incoming word of a temporary's own
 abbrev pub IsHome : ℕ → ℕ → Place → Type 0
@@ -57,4 +58,5 @@ pub record AreAssigned (f : Function) (places : List Place) (intervals : List In
   pub within : (u : ℕ) → u < temporaries f → IsWithin f (place_of places u)
   pub slots : (u : ℕ) → u < temporaries f → (j : ℕ) → place_of places u ≡ Slot j → f.params + j ≡ u
   pub incoming : (u : ℕ) → u < temporaries f → (j : ℕ) → place_of places u ≡ Incoming j → j ≡ u
-  pub apart : (u v : ℕ) → u < v → v < temporaries f → place_of places u ≡ place_of places v → AreApart (interval_of intervals u) (interval_of intervals v)
+  pub apart : (u v : ℕ) → u < v → v < temporaries f → place_of places u ≡ place_of places v
+      → AreApart (interval_of intervals u) (interval_of intervals v)

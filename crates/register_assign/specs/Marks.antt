@@ -39,7 +39,9 @@ AreLive ops t marks = (at : ℕ) → is_marked marks at ≡ true → IsLiveAt op
 
 -- every place that is to be marked is marked, from one on
 abbrev pub AreClosedFrom : ℕ → List Op → ℕ → List Bool → Type 0
-AreClosedFrom from ops t marks = (at : ℕ) (op : Op) → from ≤ at → slice_get ops at ≡ Some op → is_due op t at marks ≡ true → is_marked marks at ≡ true
+AreClosedFrom from ops t marks =
+    (at : ℕ) (op : Op) → from ≤ at → slice_get ops at ≡ Some op → is_due op t at marks ≡ true
+    → is_marked marks at ≡ true
 
 -- how many places aren't marked
 abbrev pub unmarked : List Bool → ℕ

@@ -29,6 +29,7 @@ pub record ArePlacesSound (f : Function) (places : List Place) : Type 0 where
   -- a parameter in an incoming place has that of its own number
   pub stays : (t j : ℕ) → t < f.params → place_of places t ≡ Incoming j → j ≡ t
   -- each op's written place is the place of no other temporary that is live after it
-  pub written : (at t u : ℕ) (op : Op) → slice_get f.ops at ≡ Some op → writes op ≡ Some t → IsLiveAfter f.ops u at → t < temporaries f → u < temporaries f → place_of places u ≡ place_of places t → u ≡ t
+  pub written : (at t u : ℕ) (op : Op) → slice_get f.ops at ≡ Some op → writes op ≡ Some t → IsLiveAfter f.ops u at
+      → t < temporaries f → u < temporaries f → place_of places u ≡ place_of places t → u ≡ t
   -- registers are r4 to r7, and slots and incoming places are within the measures
   pub within : (t : ℕ) → t < temporaries f → IsWithin f (place_of places t)

@@ -10,7 +10,8 @@ use Rattle.register_assign.specs.Marks.{is_among, is_the, is_marked}
 -- the op at a place reads a temporary; or it doesn't write it, and a place where a run goes on passes a test
 abbrev pub is_read_by : Option Op → ℕ → ℕ → (ℕ → Bool) → Bool
 is_read_by None t at later = false
-is_read_by (Some op) t at later = is_among t (reads op) || (not (is_the t (writes op)) && list_any later (goes_on at op))
+is_read_by (Some op) t at later =
+    is_among t (reads op) || (not (is_the t (writes op)) && list_any later (goes_on at op))
 
 -- from a place on a temporary is read within so many ops, before it is written
 abbrev pub is_read_within : ℕ → List Op → ℕ → ℕ → Bool
@@ -44,11 +45,15 @@ pub record HasDeadResult (f : Function) (at : ℕ) : Type 0 where
 -- of the ops that write one of the first n temporaries it is noted whether nobody reads the result, and of no others
 pub record AreNoted (ops : List Op) (n : ℕ) (notes : List Bool) : Type 0 where
   pub long : length notes ≡ length ops
-  pub noted : (at t : ℕ) (op : Op) → slice_get ops at ≡ Some op → writes op ≡ Some t → t < n → is_marked notes at ≡ is_left ops at op t
-  pub others : (at : ℕ) (op : Op) → slice_get ops at ≡ Some op → ((t : ℕ) → writes op ≡ Some t → n ≤ t) → is_marked notes at ≡ false
+  pub noted : (at t : ℕ) (op : Op) → slice_get ops at ≡ Some op → writes op ≡ Some t → t < n
+      → is_marked notes at ≡ is_left ops at op t
+  pub others : (at : ℕ) (op : Op) → slice_get ops at ≡ Some op → ((t : ℕ) → writes op ≡ Some t → n ≤ t)
+      → is_marked notes at ≡ false
 
 -- those of the ops that write a temporary are noted anew, of ops up to one
 pub record AreNotedAnew (ops : List Op) (t upto : ℕ) (old new : List Bool) : Type 0 where
   pub long : length new ≡ length old
-  pub noted : (at : ℕ) (op : Op) → at < upto → slice_get ops at ≡ Some op → is_the t (writes op) ≡ true → is_marked new at ≡ is_left ops at op t
-  pub others : (at : ℕ) (op : Op) → slice_get ops at ≡ Some op → is_the t (writes op) ≡ false → is_marked new at ≡ is_marked old at
+  pub noted : (at : ℕ) (op : Op) → at < upto → slice_get ops at ≡ Some op → is_the t (writes op) ≡ true
+      → is_marked new at ≡ is_left ops at op t
+  pub others : (at : ℕ) (op : Op) → slice_get ops at ≡ Some op → is_the t (writes op) ≡ false
+      → is_marked new at ≡ is_marked old at

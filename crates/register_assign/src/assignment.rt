@@ -98,7 +98,8 @@ fn move_to_register(places: &mut [Place], intervals: &[Interval], t: usize)
     requires long { length places.old ≡ length intervals.now }
     requires known { t < length places.old }
     ensures long { length places.new ≡ length places.old }
-    ensures assigned { (f : Function) → AreAssigned f places.old intervals.now → AreAssigned f places.new intervals.now }
+    ensures assigned { (f : Function) → AreAssigned f places.old intervals.now
+        → AreAssigned f places.new intervals.now }
 {
     if let Some(r) = free_register(places, intervals, intervals[t]) {
         places[t] = Place::Reg(r);
@@ -111,7 +112,8 @@ fn give_next(places: &mut [Place], intervals: &[Interval], left: &mut [Option<u6
     requires left { length left.old ≡ length places.old }
     ensures long { length places.new ≡ length places.old }
     ensures left { length left.new ≡ length left.old }
-    ensures assigned { (f : Function) → AreAssigned f places.old intervals.now → AreAssigned f places.new intervals.now }
+    ensures assigned { (f : Function) → AreAssigned f places.old intervals.now
+        → AreAssigned f places.new intervals.now }
 {
     if let Some(t) = most_used(left) {
         left[t] = None;

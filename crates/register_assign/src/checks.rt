@@ -157,7 +157,8 @@ fn are_temporaries_sound(
     function: &Function,
     places: &[Place],
 ) -> Result<bool, NoMemory>
-    ensures { IfOk result (λ sound. IsTrue sound ↔ ((u : ℕ) → u < length places.now → IsTemporarySound function.now places.now u)) }
+    ensures { IfOk result
+        (λ sound. IsTrue sound ↔ ((u : ℕ) → u < length places.now → IsTemporarySound function.now places.now u)) }
 {
     for u in 0..places.len() {
         if !is_temporary_sound(alloc, function, places, u)? {

@@ -4,7 +4,8 @@ use Rattle.std.specs.Prelude.{◌≡◌, ℕ, zero, suc, ◌+◌, ◌<◌, ◌�
 -- A line begins at the start of the text, and behind each line break: behind LF, and behind a CR that no LF follows.
 abbrev pub begins_line : List ℕ → ℕ → Bool
 begins_line text zero = true
-begins_line text (suc before) = (slice_index text before == 10) || ((slice_index text before == 13) && not (slice_index text (suc before) == 10))
+begins_line text (suc before) =
+    (slice_index text before == 10) || ((slice_index text before == 13) && not (slice_index text (suc before) == 10))
 
 -- the number of lines that begin at a place or before it
 unfoldable pub lines_upto : List ℕ → ℕ → ℕ

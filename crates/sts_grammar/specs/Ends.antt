@@ -49,8 +49,10 @@ continues s j = nat_lt 0 (binds s j)
 -- the token at j goes on with the declared name that ends before it
 abbrev pub declaration_continues : Source → Declaration → ℕ → Bool
 declaration_continues s (Declare at name shape (present first)) j = continues s j || is_mark m.Comma (kind s j)
-declaration_continues s (Declare at name (Some shape) absent) j = is_mark m.Assign (kind s j) || is_mark m.Comma (kind s j)
-declaration_continues s (Declare at name None absent) j = is_mark m.Colon (kind s j) || is_mark m.Assign (kind s j) || is_mark m.Comma (kind s j)
+declaration_continues s (Declare at name (Some shape) absent) j =
+    is_mark m.Assign (kind s j) || is_mark m.Comma (kind s j)
+declaration_continues s (Declare at name None absent) j =
+    is_mark m.Colon (kind s j) || is_mark m.Assign (kind s j) || is_mark m.Comma (kind s j)
 
 -- the same of the last of some
 abbrev pub declarations_continue : Source → Declarations → ℕ → Bool

@@ -23,7 +23,8 @@ IsTypeName s (ListOf item) i = ⊥
 -- A type from one token up to another: a name, and any number of `[]`, where no line break stands before a `[`.
 abbrev pub IsType : Source → Annotation → ℕ → ℕ → Type 0
 IsType s (ListOf item) i j =
-    (k : ℕ) × IsType s item i k × IsMark s k m.OpenBracket × (broken s k ≡ false) × IsMark s (k + 1) m.CloseBracket × (j ≡ k + 2)
+    (k : ℕ) × IsType s item i k × IsMark s k m.OpenBracket × (broken s k ≡ false) × IsMark s (k + 1) m.CloseBracket
+    × (j ≡ k + 2)
 IsType s annotation i j = IsTypeName s annotation i × (j ≡ i + 1)
 
 -- A result's type: a type, or `void`.

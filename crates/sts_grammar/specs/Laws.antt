@@ -20,31 +20,39 @@ use Rattle.sts_grammar.specs.ReadUnits.{read_program}
 -- with, one longest, and one statement, each with one end.
 pub record OneTree : Type 0 where
   pub between : (s : Source) (i j : ℕ) (e e' : Tree) → IsExpression s e i j → IsExpression s e' i j → e ≡ e'
-  pub whole : (s : Source) (i : ℕ) (e : Tree) (j : ℕ) (e' : Tree) (j' : ℕ) → IsWholeExpression s e i j → IsWholeExpression s e' i j' → (e ≡ e') × (j ≡ j')
-  pub longest : (s : Source) (i : ℕ) (e : Tree) (j : ℕ) (e' : Tree) (j' : ℕ) → IsLongestExpression s i e j → IsLongestExpression s i e' j' → (e ≡ e') × (j ≡ j')
+  pub whole : (s : Source) (i : ℕ) (e : Tree) (j : ℕ) (e' : Tree) (j' : ℕ) → IsWholeExpression s e i j
+      → IsWholeExpression s e' i j' → (e ≡ e') × (j ≡ j')
+  pub longest : (s : Source) (i : ℕ) (e : Tree) (j : ℕ) (e' : Tree) (j' : ℕ) → IsLongestExpression s i e j
+      → IsLongestExpression s i e' j' → (e ≡ e') × (j ≡ j')
   pub statement : (s : Source) (f l : Bool) (i : ℕ) (a : Statement) (j : ℕ) (a' : Statement) (j' : ℕ)
       → IsStatement s f l a i j → IsStatement s f l a' i j' → (a ≡ a') × (j ≡ j')
 
 -- What the tokens spell is read, where there is room for its nesting: an operand, where no token before `upto` goes on with it, and
 -- a statement.
 pub record SpelledIsRead : Type 0 where
-  pub operand : (s : Source) (upto room l : ℕ) (e : Tree) (i j : ℕ) → IsOperand s l e (IsBare s e) i j → nesting e ≤ room → j ≤ upto
+  pub operand : (s : Source) (upto room l : ℕ) (e : Tree) (i j : ℕ) → IsOperand s l e (IsBare s e) i j
+      → nesting e ≤ room → j ≤ upto
       → binds_before s upto j < l → expression s upto room l i ≡ Some (e, j)
-  pub statement : (s : Source) (room : ℕ) (f l : Bool) (a : Statement) (i j : ℕ) → IsStatement s f l a i j → statement_nesting a ≤ room
+  pub statement : (s : Source) (room : ℕ) (f l : Bool) (a : Statement) (i j : ℕ) → IsStatement s f l a i j
+      → statement_nesting a ≤ room
       → statement s room f l i ≡ Some (a, j)
 
 -- What is read is spelled, with at most the nesting that there is room for, and the token behind an operand binds less tightly.
 pub record ReadIsSpelled : Type 0 where
-  pub operand : (s : Source) (upto room l i : ℕ) (e : Tree) (j : ℕ) → expression s upto room l i ≡ Some (e, j) → assignment_level ≤ l → l ≤ prefix_level
+  pub operand : (s : Source) (upto room l i : ℕ) (e : Tree) (j : ℕ) → expression s upto room l i ≡ Some (e, j)
+      → assignment_level ≤ l → l ≤ prefix_level
       → IsOperand s l e (IsBare s e) i j × (nesting e ≤ room) × (binds_before s upto j < l)
-  pub statement : (s : Source) (room : ℕ) (f l : Bool) (i : ℕ) (a : Statement) (j : ℕ) → statement s room f l i ≡ Some (a, j)
+  pub statement : (s : Source) (room : ℕ) (f l : Bool) (i : ℕ) (a : Statement) (j : ℕ)
+      → statement s room f l i ≡ Some (a, j)
       → IsStatement s f l a i j × (statement_nesting a ≤ room)
 
 -- The longest expression from a token on is read, and the longest statement, or there is none.
 pub record LongestIsRead : Type 0 where
-  pub longest_tree : (s : Source) (i : ℕ) (e : Tree) (j : ℕ) → longest_expression s (length s.tokens) i ≡ Some (e, j) → IsLongestExpression s i e j
+  pub longest_tree : (s : Source) (i : ℕ) (e : Tree) (j : ℕ) → longest_expression s (length s.tokens) i ≡ Some (e, j)
+      → IsLongestExpression s i e j
   pub no_tree : (s : Source) (i : ℕ) → longest_expression s (length s.tokens) i ≡ None → NoExpression s i
-  pub longest_statement : (s : Source) (f l : Bool) (i : ℕ) (a : Statement) (j : ℕ) → statement s most_nesting f l i ≡ Some (a, j) → IsLongestStatement s f l i a j
+  pub longest_statement : (s : Source) (f l : Bool) (i : ℕ) (a : Statement) (j : ℕ)
+      → statement s most_nesting f l i ≡ Some (a, j) → IsLongestStatement s f l i a j
   pub no_statement : (s : Source) (f l : Bool) (i : ℕ) → statement s most_nesting f l i ≡ None → NoStatement s f l i
 
 -- The tokens of a whole text spell at most one program, whatever its nesting.

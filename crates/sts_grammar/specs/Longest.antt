@@ -20,7 +20,8 @@ NoExpression s i = (e : Tree) (j : ℕ) → IsExpression s e i j → nesting e �
 pub record IsLongestStatement (s : Source) (f l : Bool) (i : ℕ) (a : Statement) (j : ℕ) : Type 0 where
   pub spelled : IsStatement s f l a i j
   pub nested : statement_nesting a ≤ most_nesting
-  pub longest : (other : Statement) (end : ℕ) → IsStatement s f l other i end → statement_nesting other ≤ most_nesting → end ≤ j
+  pub longest : (other : Statement) (end : ℕ) → IsStatement s f l other i end
+      → statement_nesting other ≤ most_nesting → end ≤ j
 
 -- no statement begins at i
 abbrev pub NoStatement : Source → (f l : Bool) → ℕ → Type 0

@@ -36,7 +36,8 @@ IsTarget e = ⊥
 abbrev pub IsWrapped : Source → ℕ → Stands → Stands
 IsWrapped s zero Held i j = Held i j
 IsWrapped s (suc p) Held i j =
-    (n : ℕ) × IsMark s i m.OpenParenthesis × IsWrapped s p Held (i + 1) n × IsMark s n m.CloseParenthesis × (j ≡ n + 1) × ¬ (IsArrowBehind s j)
+    (n : ℕ) × IsMark s i m.OpenParenthesis × IsWrapped s p Held (i + 1) n × IsMark s n m.CloseParenthesis × (j ≡ n + 1)
+    × ¬ (IsArrowBehind s j)
 
 -- an operand of at least level l: in parentheses, or one that holds as tightly without
 abbrev pub IsOperand : Source → ℕ → Tree → Stands → Stands
@@ -55,8 +56,8 @@ HasArrow s true i j = IsMark s i m.Arrow × (j ≡ i + 1)
 -- Parameters in parentheses, the result's type, `=>` for an arrow, and a block, whose statements and `}` stand as `Held` says.
 abbrev pub IsRoutine : Source → List Parameter → (gives : Option Annotation) → (arrow : Bool) → (Held : Stands) → Stands
 IsRoutine s params gives arrow Held i j =
-    (n o p : ℕ) × IsMark s i m.OpenParenthesis × AreParameters s params (i + 1) n × HasResult s gives n o × HasArrow s arrow o p ×
-    IsMark s p m.OpenBrace × Held (p + 1) j
+    (n o p : ℕ) × IsMark s i m.OpenParenthesis × AreParameters s params (i + 1) n × HasResult s gives n o ×
+    HasArrow s arrow o p × IsMark s p m.OpenBrace × Held (p + 1) j
 
 -- An expression as a statement doesn't begin like a block, a function or a class.
 pub record BeginsPlain (s : Source) (i : ℕ) : Type 0 where

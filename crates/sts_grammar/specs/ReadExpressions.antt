@@ -67,14 +67,16 @@ read_arguments s read i = when (is_mark m.OpenParenthesis (kind s i)) (read_list
 unfoldable pub read_statements : Source → (read : ℕ → Found Statement) (n : ℕ) (all : Statements) → ℕ → Found Statements
 read_statements s read zero all i = None
 read_statements s read (suc n) all i =
-    if is_mark m.CloseBrace (kind s i) then Some (all, i + 1) else (read i >>= λ a. read_statements s read n (put_statement all a.0) a.1)
+    if is_mark m.CloseBrace (kind s i) then Some (all, i + 1)
+    else (read i >>= λ a. read_statements s read n (put_statement all a.0) a.1)
 
 -- a block: `{`, statements and `}`
 unfoldable pub read_block : Source → (read : ℕ → Found Statement) → ℕ → Found Statements
 read_block s read i = when (is_mark m.OpenBrace (kind s i)) (read_statements s read (length s.tokens) done (i + 1))
 
 -- the block of a function expression or arrow, behind its heading
-unfoldable pub read_handler : Source → Readers → (at : ℕ) (arrow : Bool) (heading : List Parameter × Option Annotation) → ℕ → Found Tree
+unfoldable pub read_handler : Source → Readers → (at : ℕ) (arrow : Bool) (heading : List Parameter × Option Annotation)
+    → ℕ → Found Tree
 read_handler s readers at arrow heading i =
     read_block s (readers.stmt true false) i >>= λ b. Some (Handler at (Does at heading.0 heading.1 b.0 arrow), b.1)
 
@@ -90,7 +92,8 @@ read_prefix s readers i None None = None
 
 -- What a mark at i begins. A `(` begins an arrow here.
 abbrev pub read_mark : Source → Readers → ℕ → Mark → Found Tree
-read_mark s readers i m.OpenBracket = read_listed s true (readers.expr assignment_level) (i + 1) >>= λ a. Some (Items (place s i) a.0, a.1)
+read_mark s readers i m.OpenBracket =
+    read_listed s true (readers.expr assignment_level) (i + 1) >>= λ a. Some (Items (place s i) a.0, a.1)
 read_mark s readers i m.OpenParenthesis =
     read_arrow_heading s i >>= λ h. read_handler s readers (place s i) true h.0 h.1
 read_mark s readers i mark = read_prefix s readers i (prefix_number mark) (bump_by mark)
@@ -100,7 +103,8 @@ abbrev pub read_super : Source → Readers → ℕ → (method : Bool) → Found
 read_super s readers i false =
     read_arguments s (readers.expr assignment_level) (i + 1) >>= λ a. Some (SuperCall (place s i) None a.0, a.1)
 read_super s readers i true =
-    member_name_of (kind s (i + 2)) >>= λ method. read_arguments s (readers.expr assignment_level) (i + 3) >>= λ a. Some (SuperCall (place s i) (Some method) a.0, a.1)
+    member_name_of (kind s (i + 2)) >>= λ method. read_arguments s (readers.expr assignment_level) (i + 3)
+    >>= λ a. Some (SuperCall (place s i) (Some method) a.0, a.1)
 
 -- what a reserved word at i begins
 abbrev pub read_word : Source → Readers → ℕ → Word → Found Tree
@@ -109,7 +113,8 @@ read_word s readers i w.False = Some (Truth (place s i) false, i + 1)
 read_word s readers i w.Null = Some (Null (place s i), i + 1)
 read_word s readers i w.This = Some (This (place s i), i + 1)
 read_word s readers i w.New =
-    name_of (kind s (i + 1)) >>= λ class. read_arguments s (readers.expr assignment_level) (i + 2) >>= λ a. Some (Make (place s i) class a.0, a.1)
+    name_of (kind s (i + 1)) >>= λ class. read_arguments s (readers.expr assignment_level) (i + 2)
+    >>= λ a. Some (Make (place s i) class a.0, a.1)
 read_word s readers i w.Super = read_super s readers i (is_mark m.Dot (kind s (i + 1)))
 read_word s readers i w.Function = read_heading s (i + 1) >>= λ h. read_handler s readers (place s i) false h.0 h.1
 read_word s readers i word = None
@@ -124,26 +129,33 @@ read_primary s readers i (k.Mark mark) = read_mark s readers i mark
 read_primary s readers i k.Finish = None
 
 -- an operator between two operands, an assignment, or `++` or `--` behind e
-abbrev pub read_operator : Readers → (at : ℕ) (e : Tree) → ℕ → (op : Option ℕ) (assigned : Option (Option ℕ)) (by : Option ℤ) → Found Tree
-read_operator readers at e i (Some op) assigned by = readers.expr (infix_level op + 1) (i + 1) >>= λ b. Some (Binary at op e b.0, b.1)
-read_operator readers at e i None (Some op) by = when (is_target e) (readers.expr assignment_level (i + 1) >>= λ a. Some (Set at op e a.0, a.1))
+abbrev pub read_operator : Readers → (at : ℕ) (e : Tree) → ℕ
+    → (op : Option ℕ) (assigned : Option (Option ℕ)) (by : Option ℤ) → Found Tree
+read_operator readers at e i (Some op) assigned by =
+    readers.expr (infix_level op + 1) (i + 1) >>= λ b. Some (Binary at op e b.0, b.1)
+read_operator readers at e i None (Some op) by =
+    when (is_target e) (readers.expr assignment_level (i + 1) >>= λ a. Some (Set at op e a.0, a.1))
 read_operator readers at e i None None (Some by) = when (is_target e) (Some (Bump at e by true, i + 1))
 read_operator readers at e i None None None = None
 
 -- what stands behind the `?` after e
 abbrev pub read_choice : Source → Readers → (at : ℕ) (e : Tree) → ℕ → Found Tree
 read_choice s readers at e i =
-    readers.expr assignment_level i >>= λ a. when (is_mark m.Colon (kind s a.1)) (readers.expr assignment_level (a.1 + 1) >>= λ b. Some (Choice at e a.0 b.0, b.1))
+    readers.expr assignment_level i >>= λ a. when (is_mark m.Colon (kind s a.1))
+    (readers.expr assignment_level (a.1 + 1) >>= λ b. Some (Choice at e a.0 b.0, b.1))
 
 -- What goes on at i with the expression e that ends there, by the mark: a larger expression, whose place is given.
 abbrev pub read_further : Source → Readers → (at : ℕ) (e : Tree) → ℕ → Mark → Found Tree
 read_further s readers at e i m.Dot = member_name_of (kind s (i + 1)) >>= λ name. Some (Member at e name, i + 2)
 read_further s readers at e i m.OpenBracket =
-    readers.expr assignment_level (i + 1) >>= λ b. when (is_mark m.CloseBracket (kind s b.1)) (Some (Item at e b.0, b.1 + 1))
-read_further s readers at e i m.OpenParenthesis = read_listed s false (readers.expr assignment_level) (i + 1) >>= λ a. Some (Call at e a.0, a.1)
+    readers.expr assignment_level (i + 1)
+    >>= λ b. when (is_mark m.CloseBracket (kind s b.1)) (Some (Item at e b.0, b.1 + 1))
+read_further s readers at e i m.OpenParenthesis =
+    read_listed s false (readers.expr assignment_level) (i + 1) >>= λ a. Some (Call at e a.0, a.1)
 read_further s readers at e i m.Question = read_choice s readers at e (i + 1)
 read_further s readers at e i m.BarBar = readers.expr (either_level + 1) (i + 1) >>= λ b. Some (Either at e b.0, b.1)
-read_further s readers at e i m.AmpersandAmpersand = readers.expr (both_level + 1) (i + 1) >>= λ b. Some (Both at e b.0, b.1)
+read_further s readers at e i m.AmpersandAmpersand =
+    readers.expr (both_level + 1) (i + 1) >>= λ b. Some (Both at e b.0, b.1)
 read_further s readers at e i mark = read_operator readers at e i (infix_number mark) (assignment mark) (bump_by mark)
 
 abbrev pub read_behind : Source → Readers → (at : ℕ) (e : Tree) → ℕ → TokenKind → Found Tree
@@ -162,7 +174,8 @@ climb s upto room readers (suc n) l at e i =
 -- How many `(` stand one after another from i on, at most n, none of which begins the parameters of an arrow.
 unfoldable pub opened : Source → (n : ℕ) → ℕ → ℕ
 opened s zero i = 0
-opened s (suc n) i = if is_mark m.OpenParenthesis (kind s i) && not (begins_arrow s i) then suc (opened s n (i + 1)) else 0
+opened s (suc n) i =
+    if is_mark m.OpenParenthesis (kind s i) && not (begins_arrow s i) then suc (opened s n (i + 1)) else 0
 
 -- behind the `)` at i, where one stands and no arrow goes on behind it
 unfoldable pub close_at : Source → ℕ → Option ℕ

@@ -54,10 +54,12 @@ read_optional_result s i = optional_by (read_result s) (is_mark m.Colon (kind s 
 -- a parameter
 unfoldable pub read_parameter : Source → ℕ → Found Parameter
 read_parameter s i =
-    name_of (kind s i) >>= λ name. read_optional_type s (i + 1) >>= λ t. Some (record { at = place s i; name = name; shape = t.0 }, t.1)
+    name_of (kind s i) >>= λ name. read_optional_type s (i + 1)
+    >>= λ t. Some (record { at = place s i; name = name; shape = t.0 }, t.1)
 
 -- what stands behind parameters at i: `)`, or a comma and further ones, which `read` reads
-abbrev pub parameters_rest : (read : List Parameter → ℕ → Found (List Parameter)) → (all : List Parameter) → ℕ → TokenKind → Found (List Parameter)
+abbrev pub parameters_rest : (read : List Parameter → ℕ → Found (List Parameter)) → (all : List Parameter) → ℕ
+    → TokenKind → Found (List Parameter)
 parameters_rest read all i kind =
     if is_mark m.CloseParenthesis kind then Some (all, i + 1) else when (is_mark m.Comma kind) (read all (i + 1))
 
@@ -75,7 +77,8 @@ read_parameters s i =
 -- Parameters in parentheses, and a result's type where one is written.
 unfoldable pub read_heading : Source → ℕ → Found (List Parameter × Option Annotation)
 read_heading s i =
-    when (is_mark m.OpenParenthesis (kind s i)) (read_parameters s (i + 1) >>= λ p. read_optional_result s p.1 >>= λ g. Some ((p.0, g.0), g.1))
+    when (is_mark m.OpenParenthesis (kind s i))
+    (read_parameters s (i + 1) >>= λ p. read_optional_result s p.1 >>= λ g. Some ((p.0, g.0), g.1))
 
 -- the same of an arrow, with its `=>`
 unfoldable pub read_arrow_heading : Source → ℕ → Found (List Parameter × Option Annotation)

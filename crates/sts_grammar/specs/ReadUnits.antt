@@ -30,12 +30,14 @@ is_constructor s other = false
 -- parameters, a result's type and a block
 unfoldable pub read_routine : Source → Readers → (at : ℕ) → ℕ → Found Routine
 read_routine s readers at i =
-    read_heading s i >>= λ h. read_block s (readers.stmt true false) h.1 >>= λ b. Some (Does at h.0.0 h.0.1 b.0 false, b.1)
+    read_heading s i >>= λ h. read_block s (readers.stmt true false) h.1
+    >>= λ b. Some (Does at h.0.0 h.0.1 b.0 false, b.1)
 
 -- parameters and a block
 unfoldable pub read_maker : Source → Readers → (at : ℕ) → ℕ → Found ClassMember
 read_maker s readers at i =
-    when (is_mark m.OpenParenthesis (kind s i)) (read_parameters s (i + 1) >>= λ p. read_block s (readers.stmt true false) p.1 >>= λ b.
+    when (is_mark m.OpenParenthesis (kind s i))
+    (read_parameters s (i + 1) >>= λ p. read_block s (readers.stmt true false) p.1 >>= λ b.
     Some (Constructor (Does at p.0 None b.0 false), b.1))
 
 -- the end of a field that is whole at i: no comma goes on with it
@@ -45,7 +47,8 @@ read_field_end s i = if is_mark m.Comma (kind s i) then None else read_end s i
 -- what stands behind the name of a field
 unfoldable pub read_field : Source → Readers → (at name : ℕ) → ℕ → Found ClassMember
 read_field s readers at name i =
-    read_optional_type s i >>= λ t. read_initialiser (readers.expr assignment_level) false (is_mark m.Assign (kind s t.1)) t.1 >>= λ first.
+    read_optional_type s i
+    >>= λ t. read_initialiser (readers.expr assignment_level) false (is_mark m.Assign (kind s t.1)) t.1 >>= λ first.
     read_field_end s first.1 >>= λ j. Some (Field (Declare at name t.0 first.0), j)
 
 -- what stands behind the name of a method
@@ -62,7 +65,8 @@ read_behind_name s readers at name i true true = read_maker s readers at i
 unfoldable pub read_named : Source → Readers → ℕ → Found ClassMember
 read_named s readers i =
     member_name_of (kind s i) >>= λ name.
-    read_behind_name s readers (place s i) name (i + 1) (is_mark m.OpenParenthesis (kind s (i + 1))) (is_constructor s (kind s i))
+    read_behind_name s readers (place s i) name (i + 1) (is_mark m.OpenParenthesis (kind s (i + 1)))
+    (is_constructor s (kind s i))
 
 -- further members behind these: at most n members and `;`, and the `}`
 unfoldable pub read_members : Source → Readers → (n : ℕ) (all : List ClassMember) → ℕ → Found (List ClassMember)

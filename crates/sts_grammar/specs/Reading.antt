@@ -20,7 +20,8 @@ unfoldable mutual
   pub statement : Source → (room : ℕ) → (f l : Bool) (i : ℕ) → Found Statement
   statement s zero f l i = None
   statement s (suc room) f l i =
-      read_statement s room (record { expr = expression s (length s.tokens) room; stmt = statement s room }) f l i (kind s i)
+      read_statement s room
+      (record { expr = expression s (length s.tokens) room; stmt = statement s room }) f l i (kind s i)
 
 -- the readers of what has at most the nesting `room`, in an expression
 abbrev pub expression_readers : Source → (upto room : ℕ) → Readers
@@ -38,4 +39,5 @@ or_else (Some x) other = Some x
 -- The longest expression within the limit of nesting: what is read with the greatest bound, at most n, with which something is.
 unfoldable pub longest_expression : Source → (n i : ℕ) → Found Tree
 longest_expression s zero i = None
-longest_expression s (suc n) i = or_else (expression s (suc n) most_nesting assignment_level i) (longest_expression s n i)
+longest_expression s (suc n) i =
+    or_else (expression s (suc n) most_nesting assignment_level i) (longest_expression s n i)

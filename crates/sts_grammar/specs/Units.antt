@@ -41,7 +41,8 @@ is_open other = false
 
 -- The token at j goes on with the field that ends before it. Behind a name alone a `(` makes a method of it.
 abbrev pub field_continues : Source → Declaration → ℕ → Bool
-field_continues s (Declare at name None absent) j = declaration_continues s (Declare at name None absent) j || is_open (kind s j)
+field_continues s (Declare at name None absent) j =
+    declaration_continues s (Declare at name None absent) j || is_open (kind s j)
 field_continues s field j = declaration_continues s field j
 
 -- the word `constructor`, which is no reserved one
@@ -58,7 +59,8 @@ IsMember s (Method name (Does at params gives all false)) i j =
     (k : ℕ) × HasModifier s i k × (at ≡ place s k) × IsMemberName s k name × ¬ (IsConstructor s k) ×
     IsRoutine s params gives false (InBlock s true false all) (k + 1) j
 IsMember s (Constructor (Does at params None all false)) i j =
-    (k : ℕ) × HasModifier s i k × (at ≡ place s k) × IsConstructor s k × IsRoutine s params None false (InBlock s true false all) (k + 1) j
+    (k : ℕ) × HasModifier s i k × (at ≡ place s k) × IsConstructor s k
+    × IsRoutine s params None false (InBlock s true false all) (k + 1) j
 IsMember s (Constructor other) i j = ⊥
 
 -- any number of `;`
@@ -74,7 +76,8 @@ AreMembers s (member ∷ rest) i j = (n o : ℕ) × AreSemicolons s i n × IsMem
 -- `extends` and the base's name, where there is a base
 abbrev pub HasBase : Source → Option ℕ → (base_at : ℕ) → Stands
 HasBase s None base_at i j = (base_at ≡ 0) × (i ≡ j)
-HasBase s (Some base) base_at i j = IsWord s i w.Extends × IsName s (i + 1) base × (base_at ≡ place s (i + 1)) × (j ≡ i + 2)
+HasBase s (Some base) base_at i j =
+    IsWord s i w.Extends × IsName s (i + 1) base × (base_at ≡ place s (i + 1)) × (j ≡ i + 2)
 
 -- A part of a text. The place of a class and a function is its name's.
 abbrev pub IsPart : Source → TopLevel → Stands
@@ -83,7 +86,8 @@ IsPart s (Class at name base base_at members) i j =
     IsMark s n m.OpenBrace × AreMembers s members (n + 1) j
 IsPart s (Function name (Does at params gives all true)) i j = ⊥
 IsPart s (Function name (Does at params gives all false)) i j =
-    IsWord s i w.Function × (at ≡ place s (i + 1)) × IsName s (i + 1) name × IsRoutine s params gives false (InBlock s true false all) (i + 2) j
+    IsWord s i w.Function × (at ≡ place s (i + 1)) × IsName s (i + 1) name
+    × IsRoutine s params gives false (InBlock s true false all) (i + 2) j
 IsPart s (Main a) i j = IsStatement s false false a i j
 
 -- the parts from a token on, up to the last token, which is Finish

@@ -17,7 +17,8 @@ instructions_of_a_step = 512
 -- arrives between two instructions: in at most so many instructions for one counted step, and without a fault.
 abbrev pub ImageImplements : TypedProgram → List ByteList → List ℕ → Type 0
 ImageImplements P texts image =
-    (free : List ℕ) → Implements instructions_of_a_step (boards_from (source P texts) P.main (empty P texts)) (boards_from (fibers image) (main_of image) (shared_at_reset free))
+    (free : List ℕ) → Implements instructions_of_a_step (boards_from (source P texts) P.main (empty P texts))
+    (boards_from (fibers image) (main_of image) (shared_at_reset free))
 
 -- Two boards look alike from outside: what was seen and unplugged, the clock, the end, and the four counts of statistics.
 pub record LooksLike (b c : Board) : Type 0 where
@@ -31,7 +32,8 @@ pub record LooksLike (b c : Board) : Type 0 where
   pub most : b.most ≡ c.most
 
 -- After m instructions the image's run looks like the source's after k counted steps; and where it goes on, m is small for k.
-pub record IsAfter (P : TypedProgram) (texts : List ByteList) (image : List ℕ) (until : ℕ) (script : List Entry) (free : List ℕ) (m k : ℕ) : Type 0 where
+pub record IsAfter (P : TypedProgram) (texts : List ByteList) (image : List ℕ) (until : ℕ) (script : List Entry)
+    (free : List ℕ) (m k : ℕ) : Type 0 where
   pub at_most : k ≤ m
   pub alike : LooksLike (source_run P texts until script k).board (bank_run image until script free m).board
   pub in_time : over (bank_run image until script free m).board ≡ false → m < instructions_of_a_step * (k + 1)

@@ -22,8 +22,10 @@ lowered Act Code = seen forget (λ used h. Unit {0}) Act Code
 
 -- Lowering: lowered code does what the source does in steps that together weigh at most as much as one counted step may cost. The weight of
 -- a step of lowered code is the number of instructions that it may take.
-abbrev pub Lowers : {B : Type 0} → TypedProgram → List ByteList → Kind B FlatHeap → (Heap → Activity → B → Type 0) → (ℕ → ℕ → Type 0) → (B → FlatHeap → ℕ) → Type 0
-Lowers P texts flat Act Code weight = PartialSimulation (source P texts) flat (lowered Act Code) weight (always instructions_of_a_step)
+abbrev pub Lowers : {B : Type 0} → TypedProgram → List ByteList → Kind B FlatHeap → (Heap → Activity → B → Type 0)
+    → (ℕ → ℕ → Type 0) → (B → FlatHeap → ℕ) → Type 0
+Lowers P texts flat Act Code weight =
+    PartialSimulation (source P texts) flat (lowered Act Code) weight (always instructions_of_a_step)
 
 -- Behind a turn that goes on at once an image may owe so many instructions: the piece that stores what a service has answered, and those that
 -- write the header of an array for which words were taken.

@@ -13,10 +13,13 @@ ghost use Rattle.sts_implements.specs.Images.{instructions_of_a_step, ImageImple
 /// source does after some number of counted steps, never ends by a fault, and has ended in time where the source's run ends.
 pub fn images_do_what_programs_do()
     ensures follows { (P : TypedProgram) (texts : List ByteList) (image : List ℕ) → ImageImplements P texts image
-        → (until : ℕ) (script : List Entry) (free : List ℕ) (m : ℕ) → (k : ℕ) × IsAfter P texts image until script free m k }
+        → (until : ℕ) (script : List Entry) (free : List ℕ) (m : ℕ)
+        → (k : ℕ) × IsAfter P texts image until script free m k }
     ensures no_fault { (P : TypedProgram) (texts : List ByteList) (image : List ℕ) → ImageImplements P texts image
-        → (until : ℕ) (script : List Entry) (free : List ℕ) (m : ℕ) → SoundEnd (λ kind address. ⊥) (bank_run image until script free m).board.end }
+        → (until : ℕ) (script : List Entry) (free : List ℕ) (m : ℕ)
+        → SoundEnd (λ kind address. ⊥) (bank_run image until script free m).board.end }
     ensures ends { (P : TypedProgram) (texts : List ByteList) (image : List ℕ) → ImageImplements P texts image
-        → (until : ℕ) (script : List Entry) (free : List ℕ) (s : ℕ) → over (source_run P texts until script s).board ≡ true
+        → (until : ℕ) (script : List Entry) (free : List ℕ) (s : ℕ)
+        → over (source_run P texts until script s).board ≡ true
         → over (bank_run image until script free (instructions_of_a_step * s)).board ≡ true }
 {}

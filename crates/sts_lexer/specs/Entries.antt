@@ -20,11 +20,13 @@ entry_in entries string = get_by (λ key. slice_cmp nat_cmp string key.items) en
 -- The map has the number of each string of the table, and no other string.
 abbrev pub Indexes : {A : Type 0} → BTreeMap (Vec ℕ A) ℕ → List (List ℕ) → Type 0
 Indexes entries strings =
-    (string : List ℕ) → MatchOption (entry_in entries string) (Lacks strings string) (λ entry. slice_get strings entry ≡ Some string)
+    (string : List ℕ)
+    → MatchOption (entry_in entries string) (Lacks strings string) (λ entry. slice_get strings entry ≡ Some string)
 
 -- The new map has this number at the string, and at others what the old one has.
 abbrev pub Notes : {A : Type 0} → BTreeMap (Vec ℕ A) ℕ → BTreeMap (Vec ℕ A) ℕ → List ℕ → ℕ → Type 0
-Notes old new string entry = (other : List ℕ) → entry_in new other ≡ (if bytes_eq string other then Some entry else entry_in old other)
+Notes old new string entry =
+    (other : List ℕ) → entry_in new other ≡ (if bytes_eq string other then Some entry else entry_in old other)
 
 -- What stands between tokens of the tables and of the numbers that are kept beside them: each table has distinct
 -- strings, and the number of each is known.

@@ -12,7 +12,8 @@ use Rattle.sts_lexer.specs.declared.token.Token.{Token}
 -- A text is read in one way: it has one list of tokens by given tables of distinct strings, or one refusal, and
 -- never both.
 pub record OneReading : Type 0 where
-  pub tokens : (tables : Tables) (text : List ℕ) (all all' : List Token) → IsDistinct tables.names → IsDistinct tables.texts
+  pub tokens : (tables : Tables) (text : List ℕ) (all all' : List Token) → IsDistinct tables.names
+      → IsDistinct tables.texts
       → IsTokenization tables text all → IsTokenization tables text all' → all ≡ all'
   pub either : (tables : Tables) (text : List ℕ) (all : List Token) (why : Code) (at : ℕ)
       → IsTokenization tables text all → IsRefusal text why at → ⊥
@@ -35,10 +36,12 @@ pub record IsRead (old : Tables) (text : List ℕ) (new : Tables) (all : List To
 
 -- A text that is read over given tables has one list of tokens and leaves one pair of tables.
 pub record OneNumbering : Type 0 where
-  pub one : (old new new' : Tables) (text : List ℕ) (all all' : List Token) → IsRead old text new all → IsRead old text new' all'
+  pub one : (old new new' : Tables) (text : List ℕ) (all all' : List Token) → IsRead old text new all
+      → IsRead old text new' all'
       → (new ≡ new') × (all ≡ all')
 
 -- A text that is read over tables of distinct strings has tokens, or there is a reason and a place for which it has none.
 abbrev pub SomeReading : Type 0
 SomeReading = (old : Tables) (text : List ℕ) → IsDistinct old.names → IsDistinct old.texts
-    → ((new : Tables) × (all : List Token) × IsRead old text new all) ⊎ ((why : Code) × (at : ℕ) × IsRefusal text why at)
+    → ((new : Tables) × (all : List Token) × IsRead old text new all)
+    ⊎ ((why : Code) × (at : ℕ) × IsRefusal text why at)

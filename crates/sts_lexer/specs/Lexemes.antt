@@ -66,7 +66,8 @@ character quote byte next =
 abbrev pub IsBody : List ℕ → ℕ → ℕ → List ℕ → ℕ → Type 0
 IsBody text quote i [] j = i ≡ j
 IsBody text quote i (byte ∷ bytes) j =
-    (size : ℕ) × (character quote (slice_index text i) (slice_index text (i + 1)) ≡ Some (byte, size)) × IsBody text quote (i + size) bytes j
+    (size : ℕ) × (character quote (slice_index text i) (slice_index text (i + 1)) ≡ Some (byte, size))
+    × IsBody text quote (i + size) bytes j
 
 -- A text literal whose characters stand for these bytes stands from i up to j: it closes with the quote that it opens
 -- with (StringLiteral of ECMA-262, section 12.9.4, and NoSubstitutionTemplate, section 12.9.6).

@@ -4,7 +4,8 @@ use Rattle.sts_lexer.specs.Bytes.{is_blank, is_break, Each}
 
 -- `//` or `/*` stands at i
 abbrev pub opens_comment : List ℕ → ℕ → Bool
-opens_comment text i = (slice_index text i == 47) && ((slice_index text (i + 1) == 47) || (slice_index text (i + 1) == 42))
+opens_comment text i =
+    (slice_index text i == 47) && ((slice_index text (i + 1) == 47) || (slice_index text (i + 1) == 42))
 
 -- From i up to j stands a comment that `//` opens: up to the next line break or the end of the text
 -- (SingleLineComment of ECMA-262, section 12.4).
@@ -33,7 +34,8 @@ pub record IsBlockComment (text : List ℕ) (i j : ℕ) : Type 0 where
 
 -- a byte of white space stands at i, or a comment from i up to j
 abbrev pub IsSpace : List ℕ → ℕ → ℕ → Type 0
-IsSpace text i j = (IsTrue (is_blank (slice_index text i)) × (j ≡ i + 1)) ⊎ (IsLineComment text i j ⊎ IsBlockComment text i j)
+IsSpace text i j =
+    (IsTrue (is_blank (slice_index text i)) × (j ≡ i + 1)) ⊎ (IsLineComment text i j ⊎ IsBlockComment text i j)
 
 -- White space and comments stand from i up to j, one behind the other; each ends at the next of these places.
 abbrev pub IsGap : List ℕ → ℕ → List ℕ → ℕ → Type 0

@@ -17,7 +17,8 @@ use Rattle.sts_lexer.specs.declared.words.Word.{Word}
 abbrev pub IsKindOf : Tables → Lexeme → TokenKind → Type 0
 IsKindOf tables (name bytes) (kinds.Name entry) =
     (slice_get tables.names entry ≡ Some bytes) × ((word : Word) → bytes ≢ word_bytes word)
-IsKindOf tables (name bytes) (kinds.Word word entry) = (slice_get tables.names entry ≡ Some bytes) × (bytes ≡ word_bytes word)
+IsKindOf tables (name bytes) (kinds.Word word entry) =
+    (slice_get tables.names entry ≡ Some bytes) × (bytes ≡ word_bytes word)
 IsKindOf tables (number value) (kinds.Num int) = int ≡ to_int32 value
 IsKindOf tables (quoted value) (kinds.Text entry) = slice_get tables.texts entry ≡ Some value
 IsKindOf tables (mark which) (kinds.Mark this) = this ≡ which

@@ -24,7 +24,8 @@ TakesUp (Some entry) before after = ((entry < before) × (after ≡ before)) ⊎
 -- the same of tokens, one behind the other
 abbrev pub TakeUp : (TokenKind → Option ℕ) → List Token → (before after : ℕ) → Type 0
 TakeUp entry_of [] before after = after ≡ before
-TakeUp entry_of (token ∷ rest) before after = (next : ℕ) × TakesUp (entry_of token.kind) before next × TakeUp entry_of rest next after
+TakeUp entry_of (token ∷ rest) before after =
+    (next : ℕ) × TakesUp (entry_of token.kind) before next × TakeUp entry_of rest next after
 
 -- The strings behind the old ones are those that tokens name and the old tables lack, in the order in which they first appear.
 pub record NumbersInOrder (old new : Tables) (all : List Token) : Type 0 where

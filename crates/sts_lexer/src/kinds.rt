@@ -63,7 +63,8 @@ fn text_at(
     ensures reads { IfOk result (λ found. IfSome found (λ r. Reads tables.new text.now at r.0 r.1)) }
     ensures in_order { IfOk result (NumbersOne tables.old tables.new) }
     ensures within { IfOk result (λ found. IfSome found (λ r. (at < r.1) × (r.1 ≤ length text.now))) }
-    ensures none { IfOk result (λ found. IfNone found ((lexeme : Lexeme) (end : ℕ) → Spells text.now lexeme at end → ⊥)) }
+    ensures none { IfOk result
+        (λ found. IfNone found ((lexeme : Lexeme) (end : ℕ) → Spells text.now lexeme at end → ⊥)) }
     ensures indexed { OnOk result (IsIndexed tables.new index.new) }
     ensures distinct { AreDistinct tables.new }
     ensures grew { GrewBy 1 tables.old tables.new }
@@ -113,7 +114,8 @@ pub fn kind_at(
     ensures reads { IfOk result (λ found. IfSome found (λ r. Reads tables.new text.now at r.0 r.1)) }
     ensures in_order { IfOk result (NumbersOne tables.old tables.new) }
     ensures within { IfOk result (λ found. IfSome found (λ r. (at < r.1) × (r.1 ≤ length text.now))) }
-    ensures none { IfOk result (λ found. IfNone found ((lexeme : Lexeme) (end : ℕ) → Spells text.now lexeme at end → ⊥)) }
+    ensures none { IfOk result
+        (λ found. IfNone found ((lexeme : Lexeme) (end : ℕ) → Spells text.now lexeme at end → ⊥)) }
     ensures indexed { OnOk result (IsIndexed tables.new index.new) }
     ensures distinct { AreDistinct tables.new }
     ensures grew { GrewBy 1 tables.old tables.new }

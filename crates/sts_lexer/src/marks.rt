@@ -222,7 +222,8 @@ fn spelling(mark: Mark) -> &'static [u8]
 pub fn mark_at(text: &[u8], at: usize) -> Option<(Mark, usize)>
     requires here { at < length text.now }
     ensures some { IfSome result (λ r. Stands text.now (mark_bytes r.0) at r.1) }
-    ensures longest { IfSome result (λ r. (mark : Mark) (end : ℕ) → Stands text.now (mark_bytes mark) at end → end ≤ r.1) }
+    ensures longest { IfSome result
+        (λ r. (mark : Mark) (end : ℕ) → Stands text.now (mark_bytes mark) at end → end ≤ r.1) }
     ensures none { IfNone result ((mark : Mark) (end : ℕ) → Stands text.now (mark_bytes mark) at end → ⊥) }
 {
     let rest = &text[at..];

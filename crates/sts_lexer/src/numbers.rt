@@ -33,7 +33,8 @@ fn decimal_at(text: &[u8], at: usize) -> Option<(u32, usize)>
     requires here { at < length text.now }
     requires digit { IsTrue (is_ascii_digit (slice_index text.now at)) }
     ensures some { IfSome result (λ r. spec.IsDecimal text.now at r.1 × spec.IsValue text.now 10 r.0 at r.1) }
-    ensures none { IfNone result ((value end : ℕ) → spec.IsDecimal text.now at end → spec.IsValue text.now 10 value at end → ⊥) }
+    ensures none { IfNone result
+        ((value end : ℕ) → spec.IsDecimal text.now at end → spec.IsValue text.now 10 value at end → ⊥) }
 {
     let end = if text[at] == b'0' {
         at + 1
@@ -53,7 +54,8 @@ fn hex_at(text: &[u8], at: usize) -> Option<(u32, usize)>
     requires zero { slice_index text.now at ≡ 48 }
     requires x { spec.IsX (slice_index text.now (at + 1)) }
     ensures some { IfSome result (λ r. spec.IsHex text.now at r.1 × spec.IsValue text.now 16 r.0 (at + 2) r.1) }
-    ensures none { IfNone result ((value end : ℕ) → spec.IsHex text.now at end → spec.IsValue text.now 16 value (at + 2) end → ⊥) }
+    ensures none { IfNone result
+        ((value end : ℕ) → spec.IsHex text.now at end → spec.IsValue text.now 16 value (at + 2) end → ⊥) }
 {
     let from = at + 2;
     let end = run_end(text, from, Class::HexDigit);

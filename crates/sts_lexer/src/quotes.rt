@@ -55,7 +55,8 @@ pub fn quoted_at(
     requires here { at < length text.now }
     requires quote { IsTrue (is_quote (slice_index text.now at)) }
     ensures some { IfOk result (λ found. IfSome found (λ r. spec.IsQuoted text.now r.0 at r.1)) }
-    ensures none { IfOk result (λ found. IfNone found ((value : List ℕ) (end : ℕ) → spec.IsQuoted text.now value at end → ⊥)) }
+    ensures none { IfOk result
+        (λ found. IfNone found ((value : List ℕ) (end : ℕ) → spec.IsQuoted text.now value at end → ⊥)) }
 {
     let quote = text[at];
     let mut value = Seq::new(alloc);

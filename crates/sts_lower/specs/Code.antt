@@ -111,7 +111,8 @@ module _ (classes : List ClassEntry) (repeating : ℕ → ℕ) (params base : �
   abbrev pub action_code : BoardAction → (handler d n : ℕ) → List Op
   action_code (Service number places) handler d n = Ask (base + d) number (span (base + d) n []) ∷ []
   action_code (Library function) handler d n = Const (base + d) (pos 0) ∷ []
-  action_code Repeats handler d n = HandlerOf (base + d) (repeating handler) ∷ (Ask (base + d) SPAWN ((base + d) ∷ []) ∷ [])
+  action_code Repeats handler d n =
+      HandlerOf (base + d) (repeating handler) ∷ (Ask (base + d) SPAWN ((base + d) ∷ []) ∷ [])
 
   abbrev pub call_code : Callee → (handler d n : ℕ) → List Op
   call_code (c.Function f) handler d n = Call (base + d) f (span (base + d) n []) ∷ []
@@ -137,7 +138,8 @@ module _ (classes : List ClassEntry) (repeating : ℕ → ℕ) (params base : �
   abbrev pub store_code : Target → ℕ → List Op
   store_code (ToName x) d = set_op params (base + d) x ∷ []
   store_code (ToField f) d = FieldSet (base + d) f (base + suc d) ∷ (Copy (base + d) (base + suc d) ∷ [])
-  store_code ToItem d = ItemSet (base + d) (base + suc d) (base + suc (suc d)) ∷ (Copy (base + d) (base + suc (suc d)) ∷ [])
+  store_code ToItem d =
+      ItemSet (base + d) (base + suc d) (base + suc (suc d)) ∷ (Copy (base + d) (base + suc (suc d)) ∷ [])
   store_code ToNothing d = []
 
   -- `++` and `--` of a name that is a temporary, and of a global
@@ -146,8 +148,10 @@ module _ (classes : List ClassEntry) (repeating : ℕ → ℕ) (params base : �
 
   abbrev pub bump_global : ℤ → Bool → (g d : ℕ) → List Op
   bump_global by true g d =
-      GlobalGet (base + d) g ∷ (Unary (base + d) (bump_op by) (base + d) ∷ (GlobalSet g (base + d) ∷ (bumped_op by true (base + d) (base + d) ∷ [])))
-  bump_global by false g d = GlobalGet (base + d) g ∷ (Unary (base + d) (bump_op by) (base + d) ∷ (GlobalSet g (base + d) ∷ []))
+      GlobalGet (base + d) g ∷ (Unary (base + d) (bump_op by) (base + d)
+      ∷ (GlobalSet g (base + d) ∷ (bumped_op by true (base + d) (base + d) ∷ [])))
+  bump_global by false g d =
+      GlobalGet (base + d) g ∷ (Unary (base + d) (bump_op by) (base + d) ∷ (GlobalSet g (base + d) ∷ []))
 
   abbrev pub bump_code : Target → ℤ → Bool → ℕ → List Op
   bump_code (ToName (Param i)) by late d = bump_temporary by late i d
@@ -157,15 +161,18 @@ module _ (classes : List ClassEntry) (repeating : ℕ → ℕ) (params base : �
       FieldGet (base + suc d) (base + d) f ∷ (Unary (base + suc d) (bump_op by) (base + suc d)
       ∷ (FieldSet (base + d) f (base + suc d) ∷ (bumped_op by late (base + d) (base + suc d) ∷ [])))
   bump_code ToItem by late d =
-      ItemGet (base + suc (suc d)) (base + d) (base + suc d) ∷ (Unary (base + suc (suc d)) (bump_op by) (base + suc (suc d))
-      ∷ (ItemSet (base + d) (base + suc d) (base + suc (suc d)) ∷ (bumped_op by late (base + d) (base + suc (suc d)) ∷ [])))
+      ItemGet (base + suc (suc d)) (base + d) (base + suc d)
+      ∷ (Unary (base + suc (suc d)) (bump_op by) (base + suc (suc d))
+      ∷ (ItemSet (base + d) (base + suc d) (base + suc (suc d))
+      ∷ (bumped_op by late (base + d) (base + suc (suc d)) ∷ [])))
   bump_code ToNothing by late d = Const (base + d) (pos 0) ∷ []
 
   -- each item becomes the operand above the array, and goes into it
   abbrev pub items_code : List Part → (d at : ℕ) → List Op
   items_code [] d at = []
   items_code (p ∷ ps) d at =
-      p.ops (suc d) at ++ (Ask (base + suc d) PUSH ((base + d) ∷ ((base + suc d) ∷ [])) ∷ items_code ps d (at + p.size + 1))
+      p.ops (suc d) at ++ (Ask (base + suc d) PUSH ((base + d) ∷ ((base + suc d) ∷ []))
+      ∷ items_code ps d (at + p.size + 1))
 
   abbrev mutual
     -- An expression's ops at a place: with d operands pending its value becomes the next one, and what comes after it stands at next.
@@ -201,7 +208,8 @@ module _ (classes : List ClassEntry) (repeating : ℕ → ℕ) (params base : �
         reach_code x d at
         ++ (read_code (target x) d
         ∷ (code r (suc (stored_at (target x) d)) (at + reach_size x + 1) (at + reach_size x + 1 + size r)
-        ++ (Binary (base + stored_at (target x) d) op (base + stored_at (target x) d) (base + suc (stored_at (target x) d)) ∷ store_code (target x) d)))
+        ++ (Binary (base + stored_at (target x) d) op (base + stored_at (target x) d)
+        (base + suc (stored_at (target x) d)) ∷ store_code (target x) d)))
     code (e.Bump u x by late) d at next = reach_code x d at ++ bump_code (target x) by late d
     code (e.Field u a f) d at next = code a d at (at + size a) ++ FieldGet (base + d) (base + d) f ∷ []
     code (e.Length u a) d at next = code a d at (at + size a) ++ Length (base + d) (base + d) ∷ []
@@ -212,13 +220,16 @@ module _ (classes : List ClassEntry) (repeating : ℕ → ℕ) (params base : �
     code (e.Call u f args) d at next =
         (let all = arguments f (parts args) in parts_code all d at ++ call_code f (handler_of args) d (length all))
     code (e.SuperCall u f args) d at next =
-        (let all = parts args in Copy (base + d) 0 ∷ (parts_code all (suc d) (at + 1) ++ Call (base + d) f (span (base + d) (suc (length all)) []) ∷ []))
+        (let all = parts args in Copy (base + d)
+        0 ∷ (parts_code all (suc d) (at + 1) ++ Call (base + d) f (span (base + d) (suc (length all)) []) ∷ []))
     code (e.Make u class args) d at next =
         (let all = parts args in
         parts_code all d at
         ++ (MakeObject (base + (length all + d)) class
-        ∷ (Call (base + d) (maker_of classes class) ((base + (length all + d)) ∷ span (base + d) (length all) []) ∷ [])))
-    code (e.Items u items) d at next = (let all = parts items in MakeArray (base + d) (length all) ∷ items_code all d (at + 1))
+        ∷ (Call (base + d) (maker_of classes class)
+        ((base + (length all + d)) ∷ span (base + d) (length all) []) ∷ [])))
+    code (e.Items u items) d at next =
+        (let all = parts items in MakeArray (base + d) (length all) ∷ items_code all d (at + 1))
     code (e.Handler u f) d at next = HandlerOf (base + d) f ∷ []
 
     pub parts : TypedTrees → List Part

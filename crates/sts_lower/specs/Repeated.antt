@@ -66,7 +66,8 @@ abbrev mutual
   repeated_in (e.IfElse test a o) = repeated test ++ (repeated_in a ++ repeated_in o)
   repeated_in (e.While test a) = repeated test ++ repeated_in a
   repeated_in (e.DoWhile a test) = repeated_in a ++ repeated test
-  repeated_in (e.For first test step a) = repeated_in_first first ++ (optionally_repeated test ++ (optionally_repeated step ++ repeated_in a))
+  repeated_in (e.For first test step a) =
+      repeated_in_first first ++ (optionally_repeated test ++ (optionally_repeated step ++ repeated_in a))
   repeated_in (e.ForOf fixed x list a) = repeated list ++ repeated_in a
   repeated_in (e.Return value) = optionally_repeated value
   repeated_in e.Break = []

@@ -168,7 +168,8 @@ module _ (maker : Bool) where
     statement_size (e.IfElse test a o) = size test + 1 + statement_size o + 1 + statement_size a
     statement_size (e.While test a) = size test + 1 + 1 + statement_size a + 1
     statement_size (e.DoWhile a test) = statement_size a + size test + 1 + 1 + 1
-    statement_size (e.For first test step a) = first_size first + (test_size test + statement_size a + step_size step + 1)
+    statement_size (e.For first test step a) =
+        first_size first + (test_size test + statement_size a + step_size step + 1)
     statement_size (e.ForOf fixed (Local i) list a) = size list + 1 + 1 + 1 + (item_size + statement_size a + 1)
     statement_size (e.ForOf fixed (Param i) list a) = 1
     statement_size (e.ForOf fixed (Global g) list a) = 1

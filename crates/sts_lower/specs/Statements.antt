@@ -32,12 +32,15 @@ module _ (classes : List ClassEntry) (repeating : ℕ → ℕ) (params base : �
 
   abbrev pub declared_code : List TypedDeclaration → (at : ℕ) → List Op
   declared_code [] at = []
-  declared_code (d ∷ rest) at = initial_code d.first at ++ (set_op params (base + 0) d.name ∷ declared_code rest (at + initial_size d.first + 1))
+  declared_code (d ∷ rest) at =
+      initial_code d.first at ++ (set_op params (base + 0) d.name ∷ declared_code rest (at + initial_size d.first + 1))
 
   -- the test and the step of a `for`, which may be left out
   abbrev pub test_code : Option TypedTree → (at next : ℕ) → List Op
   test_code None at next = []
-  test_code (Some a) at next = code classes repeating params base a 0 at (at + size a) ++ (Branch (base + 0) (at + size a + 1 + 1) ∷ (Jump next ∷ []))
+  test_code (Some a) at next =
+      code classes repeating params base a 0 at (at + size a)
+      ++ (Branch (base + 0) (at + size a + 1 + 1) ∷ (Jump next ∷ []))
 
   abbrev pub step_code : Option TypedTree → (at : ℕ) → List Op
   step_code None at = []
@@ -47,8 +50,10 @@ module _ (classes : List ClassEntry) (repeating : ℕ → ℕ) (params base : �
   -- else the loop ends. Then the item is read, and the index moves on.
   abbrev pub item_code : (i at next : ℕ) → List Op
   item_code i at next =
-      Length (base + 0) (params + suc i) ∷ (Binary (base + 0) 6 (params + suc (suc i)) (base + 0) ∷ (Branch (base + 0) (at + 1 + 1 + 1 + 1) ∷ (Jump next
-      ∷ (ItemGet (params + i) (params + suc i) (params + suc (suc i)) ∷ (Unary (params + suc (suc i)) INCREMENT (params + suc (suc i)) ∷ [])))))
+      Length (base + 0) (params + suc i) ∷ (Binary (base + 0) 6 (params + suc (suc i)) (base + 0)
+      ∷ (Branch (base + 0) (at + 1 + 1 + 1 + 1) ∷ (Jump next
+      ∷ (ItemGet (params + i) (params + suc i) (params + suc (suc i))
+      ∷ (Unary (params + suc (suc i)) INCREMENT (params + suc (suc i)) ∷ [])))))
 
   -- in a constructor, or in another function
   module _ (maker : Bool) where
@@ -91,14 +96,16 @@ module _ (classes : List ClassEntry) (repeating : ℕ → ℕ) (params base : �
       statement_code (e.ForOf fixed (Local i) list a) at next out again =
           (let turn = at + size list + 1 + 1 + 1 in
           code classes repeating params base list 0 at (at + size list)
-          ++ (set_op params (base + 0) (Local (suc i)) ∷ (Const (base + 0) (pos 0) ∷ (set_op params (base + 0) (Local (suc (suc i)))
+          ++ (set_op params (base + 0)
+          (Local (suc i)) ∷ (Const (base + 0) (pos 0) ∷ (set_op params (base + 0) (Local (suc (suc i)))
           ∷ (item_code i turn next
           ++ (statement_code a (turn + item_size) turn next turn
           ++ Jump turn ∷ []))))))
       statement_code (e.ForOf fixed (Param i) list a) at next out again = Jump next ∷ []
       statement_code (e.ForOf fixed (Global g) list a) at next out again = Jump next ∷ []
       statement_code (e.Return None) at next out again = bare_code maker base
-      statement_code (e.Return (Some a)) at next out again = code classes repeating params base a 0 at (at + size a) ++ return_code maker base
+      statement_code (e.Return (Some a)) at next out again =
+          code classes repeating params base a 0 at (at + size a) ++ return_code maker base
       statement_code e.Break at next out again = Jump out ∷ []
       statement_code e.Continue at next out again = Jump again ∷ []
       statement_code (e.Plain a) at next out again = code classes repeating params base a 0 at next

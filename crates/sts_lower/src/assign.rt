@@ -61,7 +61,8 @@ pub(crate) fn read_op(frame: &Frame, target: Target, d: u32) -> Op
 
 /// A `++` or `--` of a temporary comes next.
 fn bump_temporary(stack: &mut Stack, by: i32, late: bool, t: u32, to: u32) -> Result<(), NoMemory>
-    ensures { OnOk result (works stack.new ≡ p.Put (Op.Unary t (k.bump_op by) t) ∷ (p.Put (k.bumped_op by late to t) ∷ works stack.old)) }
+    ensures { OnOk result
+        (works stack.new ≡ p.Put (Op.Unary t (k.bump_op by) t) ∷ (p.Put (k.bumped_op by late to t) ∷ works stack.old)) }
 {
     put(stack, bumped_op(by, late, to, t))?;
     put(stack, unary(t, bump_op(by), t))
@@ -77,7 +78,8 @@ fn bump_global<'a>(
     d: u32,
 ) -> Result<(), NoMemory>
     requires { frame.now.base + d < 2 ^ 32 }
-    ensures { OnOk result (works stack.new ≡ p.puts (p.bumps_global (layout frame.now) by late slot d) ++ works stack.old) }
+    ensures { OnOk result
+        (works stack.new ≡ p.puts (p.bumps_global (layout frame.now) by late slot d) ++ works stack.old) }
 {
     let first = frame.base + d;
     if late {
@@ -99,7 +101,8 @@ pub(crate) fn bump<'a>(
 ) -> Result<(), NoMemory>
     requires temporaries { frame.now.base + p.held_at (layout frame.now) (target_shown target) d < 2 ^ 32 }
     requires names { TargetFits frame.now.params (target_shown target) }
-    ensures { OnOk result (works stack.new ≡ p.puts (p.bumps (layout frame.now) (target_shown target) by late d) ++ works stack.old) }
+    ensures { OnOk result
+        (works stack.new ≡ p.puts (p.bumps (layout frame.now) (target_shown target) by late d) ++ works stack.old) }
 {
     let first = frame.base + d;
     match target {
@@ -133,7 +136,8 @@ pub(crate) fn store<'a>(
 ) -> Result<(), NoMemory>
     requires temporaries { frame.now.base + p.held_at (layout frame.now) (target_shown target) d < 2 ^ 32 }
     requires names { TargetFits frame.now.params (target_shown target) }
-    ensures { OnOk result (works stack.new ≡ p.puts (p.stores (layout frame.now) (target_shown target) d) ++ works stack.old) }
+    ensures { OnOk result
+        (works stack.new ≡ p.puts (p.stores (layout frame.now) (target_shown target) d) ++ works stack.old) }
 {
     let first = frame.base + d;
     match target {

@@ -99,7 +99,8 @@ fn act<'a>(
 ) -> Result<(), NoMemory>
     requires temporaries { frame.now.base + d + n < 2 ^ 32 }
     requires functions { frame.now.functions + length frame.now.repeated.now < 2 ^ 32 }
-    ensures { OnOk result (works stack.new ≡ p.puts (p.acts (layout frame.now) (board_action action) handler d n) ++ works stack.old) }
+    ensures { OnOk result
+        (works stack.new ≡ p.puts (p.acts (layout frame.now) (board_action action) handler d n) ++ works stack.old) }
 {
     let to = frame.base + d;
     match action {
@@ -129,7 +130,8 @@ fn invoke<'a>(
 ) -> Result<(), NoMemory>
     requires temporaries { frame.now.base + d + n < 2 ^ 32 }
     requires functions { frame.now.functions + length frame.now.repeated.now < 2 ^ 32 }
-    ensures { OnOk result (works stack.new ≡ p.puts (p.invokes (layout frame.now) callee handler d n) ++ works stack.old) }
+    ensures { OnOk result
+        (works stack.new ≡ p.puts (p.invokes (layout frame.now) callee handler d n) ++ works stack.old) }
 {
     let to = frame.base + d;
     match callee {
@@ -161,7 +163,8 @@ pub(crate) fn open_call<'a>(
 ) -> Result<(), NoMemory>
     requires temporaries { frame.now.base + site.d + p.passed_by callee (how_many (typed_trees args.now)) < 2 ^ 32 }
     requires functions { frame.now.functions + length frame.now.repeated.now < 2 ^ 32 }
-    ensures { OnOk result (works stack.new ≡ p.called (layout frame.now) callee (typed_trees args.now) site.d site.at ++ works stack.old) }
+    ensures { OnOk result (works stack.new
+        ≡ p.called (layout frame.now) callee (typed_trees args.now) site.d site.at ++ works stack.old) }
 {
     let n = own_numbers(callee) + args.len() as u32;
     let handler = handler_of(args.as_slice());
@@ -185,7 +188,8 @@ pub(crate) fn open_super_call<'a>(
 ) -> Result<(), NoMemory>
     requires temporaries { frame.now.base + site.d + (how_many (typed_trees args.now) + 1) < 2 ^ 32 }
     requires places { site.at + 1 < 2 ^ 32 }
-    ensures { OnOk result (works stack.new ≡ p.called_above (layout frame.now) function (typed_trees args.now) site.d site.at ++ works stack.old) }
+    ensures { OnOk result (works stack.new
+        ≡ p.called_above (layout frame.now) function (typed_trees args.now) site.d site.at ++ works stack.old) }
 {
     let to = frame.base + site.d;
     let numbers = span(frame.alloc, to, args.len() as u32 + 1)?;
@@ -230,7 +234,8 @@ pub(crate) fn open_make<'a>(
     site: Site,
 ) -> Result<(), NoMemory>
     requires temporaries { frame.now.base + site.d + (how_many (typed_trees args.now) + 1) < 2 ^ 32 }
-    ensures { OnOk result (works stack.new ≡ p.made (layout frame.now) class (typed_trees args.now) site.d site.at ++ works stack.old) }
+    ensures { OnOk result
+        (works stack.new ≡ p.made (layout frame.now) class (typed_trees args.now) site.d site.at ++ works stack.old) }
 {
     let to = frame.base + site.d;
     let n = args.len() as u32;
@@ -264,7 +269,8 @@ pub(crate) fn open_items<'a>(
 ) -> Result<(), NoMemory>
     requires temporaries { frame.now.base + site.d < 2 ^ 32 }
     requires places { site.at + 1 + how_many (typed_trees items.now) < 2 ^ 32 }
-    ensures { OnOk result (works stack.new ≡ p.listed (layout frame.now) (typed_trees items.now) site.d site.at ++ works stack.old) }
+    ensures { OnOk result
+        (works stack.new ≡ p.listed (layout frame.now) (typed_trees items.now) site.d site.at ++ works stack.old) }
 {
     stack.push(Work::Elements {
         items: items.as_slice(),
@@ -289,8 +295,10 @@ pub(crate) fn open_arguments<'a>(
     d: u32,
     at: u32,
 ) -> Result<(), NoMemory>
-    requires fits { WorkFits (layout frame.now) (p.Arguments (map service_place places.now) (typed_trees args.now) d at) }
-    ensures { OnOk result (works stack.new ≡ p.opened_arguments (layout frame.now) (map service_place places.now) (typed_trees args.now) d at ++ works stack.old) }
+    requires fits { WorkFits (layout frame.now)
+        (p.Arguments (map service_place places.now) (typed_trees args.now) d at) }
+    ensures { OnOk result (works stack.new ≡ p.opened_arguments (layout frame.now) (map service_place places.now)
+        (typed_trees args.now) d at ++ works stack.old) }
 {
     match (places, args) {
         ([], []) => Ok(()),
@@ -327,7 +335,9 @@ fn argument<'a>(
 ) -> Result<(), NoMemory>
     requires places { at + z.size (typed_tree a.now) < 2 ^ 32 }
     requires operands { d + 1 < 2 ^ 32 }
-    ensures { OnOk result (works stack.new ≡ p.Value (typed_tree a.now) d at (at + z.size (typed_tree a.now)) ∷ (p.Arguments (map service_place places.now) (typed_trees rest.now) (suc d) (at + z.size (typed_tree a.now)) ∷ works stack.old)) }
+    ensures { OnOk result (works stack.new ≡ p.Value (typed_tree a.now) d at (at + z.size (typed_tree a.now))
+        ∷ (p.Arguments (map service_place places.now) (typed_trees rest.now) (suc d) (at + z.size (typed_tree a.now))
+        ∷ works stack.old)) }
 {
     stack.push(Work::Arguments {
         places,
@@ -347,7 +357,8 @@ pub(crate) fn open_elements<'a>(
     at: u32,
 ) -> Result<(), NoMemory>
     requires fits { WorkFits (layout frame.now) (p.Elements (typed_trees items.now) d at) }
-    ensures { OnOk result (works stack.new ≡ p.opened_elements (layout frame.now) (typed_trees items.now) d at ++ works stack.old) }
+    ensures { OnOk result
+        (works stack.new ≡ p.opened_elements (layout frame.now) (typed_trees items.now) d at ++ works stack.old) }
 {
     match items {
         [] => Ok(()),

@@ -23,7 +23,8 @@ use sts_syntax::{TypedExpr, TypedNode};
 /// An op on the value of an expression comes next.
 fn apply<'a>(stack: &mut Stack<'a>, op: Op, a: &'a TypedExpr, site: Site) -> Result<(), NoMemory>
     requires { site.at + z.size (typed_tree a.now) < 2 ^ 32 }
-    ensures { OnOk result (works stack.new ≡ p.Value (typed_tree a.now) site.d site.at (site.at + z.size (typed_tree a.now)) ∷ (p.Put op ∷ works stack.old)) }
+    ensures { OnOk result (works stack.new ≡ p.Value (typed_tree a.now) site.d site.at
+        (site.at + z.size (typed_tree a.now)) ∷ (p.Put op ∷ works stack.old)) }
 {
     put(stack, op)?;
     evaluate(stack, a, site.d, site.at)
@@ -39,7 +40,8 @@ fn apply_both<'a>(
 ) -> Result<(), NoMemory>
     requires places { site.at + z.size (typed_tree a.now) + z.size (typed_tree b.now) < 2 ^ 32 }
     requires operands { site.d + 1 < 2 ^ 32 }
-    ensures { OnOk result (works stack.new ≡ p.Value (typed_tree a.now) site.d site.at (site.at + z.size (typed_tree a.now))
+    ensures { OnOk result
+        (works stack.new ≡ p.Value (typed_tree a.now) site.d site.at (site.at + z.size (typed_tree a.now))
         ∷ (p.Value (typed_tree b.now) (suc site.d) (site.at + z.size (typed_tree a.now))
         (site.at + z.size (typed_tree a.now) + z.size (typed_tree b.now)) ∷ (p.Put op ∷ works stack.old))) }
 {
@@ -57,7 +59,8 @@ fn open_both<'a>(
 ) -> Result<(), NoMemory>
     requires places { site.at + z.size (typed_tree a.now) + 2 < 2 ^ 32 }
     requires temporaries { frame.now.base + site.d < 2 ^ 32 }
-    ensures { OnOk result (works stack.new ≡ p.both (layout frame.now) (typed_tree a.now) (typed_tree b.now) site.d site.at site.next ++ works stack.old) }
+    ensures { OnOk result (works stack.new
+        ≡ p.both (layout frame.now) (typed_tree a.now) (typed_tree b.now) site.d site.at site.next ++ works stack.old) }
 {
     let behind = site.at + size_of(a) + 1 + 1;
     push_value(stack, b, site.beginning(behind))?;
@@ -77,7 +80,8 @@ fn open_either<'a>(
 ) -> Result<(), NoMemory>
     requires places { site.at + z.size (typed_tree a.now) + 1 < 2 ^ 32 }
     requires temporaries { frame.now.base + site.d < 2 ^ 32 }
-    ensures { OnOk result (works stack.new ≡ p.either (layout frame.now) (typed_tree a.now) (typed_tree b.now) site.d site.at site.next ++ works stack.old) }
+    ensures { OnOk result (works stack.new ≡ p.either (layout frame.now) (typed_tree a.now)
+        (typed_tree b.now) site.d site.at site.next ++ works stack.old) }
 {
     let behind = site.at + size_of(a) + 1;
     push_value(stack, b, site.beginning(behind))?;
@@ -95,7 +99,8 @@ fn open_choice<'a>(
 ) -> Result<(), NoMemory>
     requires places { site.at + z.size (typed_tree test.now) + 1 + z.size (typed_tree b.now) + 1 < 2 ^ 32 }
     requires temporaries { frame.now.base + site.d < 2 ^ 32 }
-    ensures { OnOk result (works stack.new ≡ p.choice (layout frame.now) (typed_tree test.now) (typed_tree a.now) (typed_tree b.now) site.d site.at site.next ++ works stack.old) }
+    ensures { OnOk result (works stack.new ≡ p.choice (layout frame.now) (typed_tree test.now) (typed_tree a.now)
+        (typed_tree b.now) site.d site.at site.next ++ works stack.old) }
 {
     let otherwise = site.at + size_of(test) + 1;
     let so = otherwise + size_of(b) + 1;
@@ -117,7 +122,8 @@ fn open_store<'a>(
     requires places { site.at + z.reach_size (typed_tree x.now) + z.size (typed_tree r.now) < 2 ^ 32 }
     requires temporaries { frame.now.base + p.held_at (layout frame.now) (z.target (typed_tree x.now)) site.d < 2 ^ 32 }
     requires names { IsTarget frame.now.params (typed_tree x.now) }
-    ensures { OnOk result (works stack.new ≡ p.assigned (layout frame.now) (typed_tree x.now) (typed_tree r.now) site.d site.at ++ works stack.old) }
+    ensures { OnOk result (works stack.new
+        ≡ p.assigned (layout frame.now) (typed_tree x.now) (typed_tree r.now) site.d site.at ++ works stack.old) }
 {
     let target = target_of(x);
     store(stack, frame, target, site.d)?;
@@ -137,9 +143,11 @@ fn open_compound<'a>(
     site: Site,
 ) -> Result<(), NoMemory>
     requires places { site.at + z.reach_size (typed_tree x.now) + 1 + z.size (typed_tree r.now) < 2 ^ 32 }
-    requires temporaries { frame.now.base + suc (p.held_at (layout frame.now) (z.target (typed_tree x.now)) site.d) < 2 ^ 32 }
+    requires temporaries { frame.now.base
+        + suc (p.held_at (layout frame.now) (z.target (typed_tree x.now)) site.d) < 2 ^ 32 }
     requires names { IsTarget frame.now.params (typed_tree x.now) }
-    ensures { OnOk result (works stack.new ≡ p.compounded (layout frame.now) op (typed_tree x.now) (typed_tree r.now) site.d site.at ++ works stack.old) }
+    ensures { OnOk result (works stack.new
+        ≡ p.compounded (layout frame.now) op (typed_tree x.now) (typed_tree r.now) site.d site.at ++ works stack.old) }
 {
     let target = target_of(x);
     let held = stored_at(frame, target, site.d);
@@ -163,7 +171,8 @@ fn open_bump<'a>(
 ) -> Result<(), NoMemory>
     requires temporaries { frame.now.base + p.held_at (layout frame.now) (z.target (typed_tree x.now)) site.d < 2 ^ 32 }
     requires names { IsTarget frame.now.params (typed_tree x.now) }
-    ensures { OnOk result (works stack.new ≡ p.bumped (layout frame.now) (typed_tree x.now) by late site.d site.at ++ works stack.old) }
+    ensures { OnOk result
+        (works stack.new ≡ p.bumped (layout frame.now) (typed_tree x.now) by late site.d site.at ++ works stack.old) }
 {
     bump(stack, frame, target_of(x), by, late, site.d)?;
     push_reach(stack, x, site)
@@ -178,7 +187,8 @@ pub(crate) fn open_value<'a>(
 ) -> Result<(), NoMemory>
     requires fits { WorkFits (layout frame.now) (p.Value (typed_tree e.now) site.d site.at site.next) }
     requires functions { frame.now.functions + length frame.now.repeated.now < 2 ^ 32 }
-    ensures { OnOk result (works stack.new ≡ p.opened_value (layout frame.now) (typed_tree e.now) site.d site.at site.next ++ works stack.old) }
+    ensures { OnOk result (works stack.new
+        ≡ p.opened_value (layout frame.now) (typed_tree e.now) site.d site.at site.next ++ works stack.old) }
 {
     let to = frame.base + site.d;
     match &e.node {
@@ -216,7 +226,8 @@ pub(crate) fn open_reach<'a>(
     at: u32,
 ) -> Result<(), NoMemory>
     requires fits { WorkFits (layout frame.now) (p.Reach (typed_tree target.now) d at) }
-    ensures { OnOk result (works stack.new ≡ p.opened_reach (layout frame.now) (typed_tree target.now) d at ++ works stack.old) }
+    ensures { OnOk result
+        (works stack.new ≡ p.opened_reach (layout frame.now) (typed_tree target.now) d at ++ works stack.old) }
 {
     match &target.node {
         TypedNode::Field(a, _) => evaluate(stack, a, d, at),

@@ -41,7 +41,8 @@ fn lower_routine(
 ) -> Result<Function, NoMemory>
     requires few { functions + length repeated.now < 2 ^ 32 }
     requires fits { IsLowerableRoutine (typed_routine body.now) }
-    ensures { IfOk result (λ function. function ≡ p.routine_of (class_entries classes.now) (λ g. functions + r.before repeated.now g) maker (typed_routine body.now)) }
+    ensures { IfOk result (λ function. function ≡ p.routine_of (class_entries classes.now)
+        (λ g. functions + r.before repeated.now g) maker (typed_routine body.now)) }
 {
     let params = body.params.len() as u32;
     let locals = body.locals.len() as u32;
@@ -75,7 +76,8 @@ fn lower_functions(
 ) -> Result<Seq<Function>, NoMemory>
     requires few { length bodies.now + length repeated.now < 2 ^ 32 }
     requires fits { AllByRecursion IsLowerableRoutine (typed_routines bodies.now) }
-    ensures { IfOk result (λ all. all ≡ p.routines_of (class_entries classes.now) (λ g. length bodies.now + r.before repeated.now g) 0 (typed_routines bodies.now)) }
+    ensures { IfOk result (λ all. all ≡ p.routines_of (class_entries classes.now)
+        (λ g. length bodies.now + r.before repeated.now g) 0 (typed_routines bodies.now)) }
 {
     let functions = bodies.len() as u32;
     let mut all = Seq::new(alloc);
@@ -166,7 +168,8 @@ fn lower_classes(alloc: Global, classes: &Seq<TypedClass>) -> Result<Seq<FlatCla
 fn all_functions(alloc: Global, typed: &Typed) -> Result<Seq<Function>, NoMemory>
     requires few { length typed.now.functions + length (l.repeated_in_program (typed_program typed.now)) < 2 ^ 32 }
     requires fits { AllByRecursion IsLowerableRoutine (typed_routines typed.now.functions) }
-    ensures { IfOk result (λ all. all ≡ l.lowered_routines (typed_program typed.now) 0 (typed_routines typed.now.functions)
+    ensures { IfOk result
+        (λ all. all ≡ l.lowered_routines (typed_program typed.now) 0 (typed_routines typed.now.functions)
         ++ l.repeating_functions (l.repeated_in_program (typed_program typed.now))) }
 {
     let mut repeated = Seq::new(alloc);

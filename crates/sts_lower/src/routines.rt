@@ -27,7 +27,8 @@ fn do_work<'a>(
     requires fits { WorkFits (layout frame.now) (work_shown work) }
     requires functions { frame.now.functions + length frame.now.repeated.now < 2 ^ 32 }
     ensures ops { OnOk result (ops.new ≡ ops.old ++ p.own_ops (layout frame.now) (work_shown work.entry)) }
-    ensures pieces { OnOk result (works stack.new ≡ p.opened (layout frame.now) (work_shown work.entry) ++ works stack.old) }
+    ensures pieces { OnOk result
+        (works stack.new ≡ p.opened (layout frame.now) (work_shown work.entry) ++ works stack.old) }
 {
     match work {
         Work::Put(op) => ops.push(op),
@@ -48,7 +49,8 @@ fn do_work<'a>(
 
 /// The ops of a function's statements, and those of running off its end.
 pub(crate) fn ops_of<'a>(frame: &Frame<'a>, all: &'a [TypedStmt]) -> Result<Seq<Op>, NoMemory>
-    requires fits { let end = z.statements_size frame.now.maker (typed_statements all.now) in WorkFits (layout frame.now) (p.ExpandAll (typed_statements all.now) 0 end end end) }
+    requires fits { let end = z.statements_size frame.now.maker (typed_statements all.now) in
+        WorkFits (layout frame.now) (p.ExpandAll (typed_statements all.now) 0 end end end) }
     requires functions { frame.now.functions + length frame.now.repeated.now < 2 ^ 32 }
     ensures { let end = z.statements_size frame.now.maker (typed_statements all.now) in
         IfOk result (λ ops. ops ≡ t.statements_code (layout frame.now).classes (layout frame.now).repeating

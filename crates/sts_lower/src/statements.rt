@@ -51,7 +51,8 @@ fn open_initial<'a>(
     at: u32,
 ) -> Result<(), NoMemory>
     requires { at + z.initial_size (optional_typed_tree first.now) < 2 ^ 32 }
-    ensures { OnOk result (works stack.new ≡ p.opened_initial (layout frame.now) (optional_typed_tree first.now) at ++ works stack.old) }
+    ensures { OnOk result
+        (works stack.new ≡ p.opened_initial (layout frame.now) (optional_typed_tree first.now) at ++ works stack.old) }
 {
     match first {
         None => put(stack, constant(frame.base, 0)),
@@ -67,7 +68,8 @@ pub(crate) fn open_declarations<'a>(
     at: u32,
 ) -> Result<(), NoMemory>
     requires fits { WorkFits (layout frame.now) (p.ExpandDeclarations (typed_declarations each.now) at) }
-    ensures { OnOk result (works stack.new ≡ p.opened_declarations (layout frame.now) (typed_declarations each.now) at ++ works stack.old) }
+    ensures { OnOk result (works stack.new
+        ≡ p.opened_declarations (layout frame.now) (typed_declarations each.now) at ++ works stack.old) }
 {
     match each {
         [] => Ok(()),
@@ -92,7 +94,8 @@ fn open_test<'a>(
     so: u32,
 ) -> Result<(), NoMemory>
     requires { at + z.size (typed_tree test.now) < 2 ^ 32 }
-    ensures { OnOk result (works stack.new ≡ p.tested (layout frame.now) (typed_tree test.now) at so ++ works stack.old) }
+    ensures { OnOk result
+        (works stack.new ≡ p.tested (layout frame.now) (typed_tree test.now) at so ++ works stack.old) }
 {
     put(stack, branch(frame.base, so))?;
     evaluate(stack, test, 0, at)
@@ -104,7 +107,8 @@ fn push_statement<'a>(
     a: &'a TypedStmt,
     course: Course,
 ) -> Result<(), NoMemory>
-    ensures { OnOk result (works stack.new ≡ p.Expand (typed_statement a.now) course.at course.next course.out course.again ∷ works stack.old) }
+    ensures { OnOk result (works stack.new
+        ≡ p.Expand (typed_statement a.now) course.at course.next course.out course.again ∷ works stack.old) }
 {
     stack.push(Work::Expand(a, course))
 }
@@ -115,7 +119,8 @@ fn push_statements<'a>(
     all: &'a [TypedStmt],
     course: Course,
 ) -> Result<(), NoMemory>
-    ensures { OnOk result (works stack.new ≡ p.ExpandAll (typed_statements all.now) course.at course.next course.out course.again ∷ works stack.old) }
+    ensures { OnOk result (works stack.new
+        ≡ p.ExpandAll (typed_statements all.now) course.at course.next course.out course.again ∷ works stack.old) }
 {
     stack.push(Work::ExpandAll(all, course))
 }
@@ -148,7 +153,8 @@ fn open_if<'a>(
     course: Course,
 ) -> Result<(), NoMemory>
     requires { course.at + z.size (typed_tree test.now) + 2 < 2 ^ 32 }
-    ensures { OnOk result (works stack.new ≡ p.if_only (layout frame.now) (typed_tree test.now) (typed_statement a.now) course.at course.next course.out course.again ++ works stack.old) }
+    ensures { OnOk result (works stack.new ≡ p.if_only (layout frame.now) (typed_tree test.now)
+        (typed_statement a.now) course.at course.next course.out course.again ++ works stack.old) }
 {
     let so = course.at + size_of(test) + 1 + 1;
     push_statement(stack, a, course.beginning(so))?;
@@ -165,8 +171,10 @@ fn open_if_else<'a>(
     o: &'a TypedStmt,
     course: Course,
 ) -> Result<(), NoMemory>
-    requires { course.at + z.size (typed_tree test.now) + 1 + z.statement_size frame.now.maker (typed_statement o.now) + 1 < 2 ^ 32 }
-    ensures { OnOk result (works stack.new ≡ p.if_else (layout frame.now) (typed_tree test.now) (typed_statement a.now) (typed_statement o.now) course.at course.next course.out course.again ++ works stack.old) }
+    requires { course.at + z.size (typed_tree test.now) + 1 + z.statement_size frame.now.maker (typed_statement o.now)
+        + 1 < 2 ^ 32 }
+    ensures { OnOk result (works stack.new ≡ p.if_else (layout frame.now) (typed_tree test.now) (typed_statement a.now)
+        (typed_statement o.now) course.at course.next course.out course.again ++ works stack.old) }
 {
     let otherwise = course.at + size_of(test) + 1;
     let so = otherwise + statement_size(o, frame.maker) + 1;
@@ -185,8 +193,10 @@ fn open_while<'a>(
     at: u32,
     next: u32,
 ) -> Result<(), NoMemory>
-    requires { at + z.size (typed_tree test.now) + 1 + 1 + z.statement_size frame.now.maker (typed_statement a.now) < 2 ^ 32 }
-    ensures { OnOk result (works stack.new ≡ p.while_turns (layout frame.now) (typed_tree test.now) (typed_statement a.now) at next ++ works stack.old) }
+    requires { at + z.size (typed_tree test.now) + 1 + 1
+        + z.statement_size frame.now.maker (typed_statement a.now) < 2 ^ 32 }
+    ensures { OnOk result (works stack.new
+        ≡ p.while_turns (layout frame.now) (typed_tree test.now) (typed_statement a.now) at next ++ works stack.old) }
 {
     let body = at + size_of(test) + 1 + 1;
     let turn = body + statement_size(a, frame.maker);
@@ -205,8 +215,10 @@ fn open_do_while<'a>(
     at: u32,
     next: u32,
 ) -> Result<(), NoMemory>
-    requires { at + z.statement_size frame.now.maker (typed_statement a.now) + z.size (typed_tree test.now) + 2 < 2 ^ 32 }
-    ensures { OnOk result (works stack.new ≡ p.do_turns (layout frame.now) (typed_statement a.now) (typed_tree test.now) at next ++ works stack.old) }
+    requires { at + z.statement_size frame.now.maker (typed_statement a.now) + z.size (typed_tree test.now)
+        + 2 < 2 ^ 32 }
+    ensures { OnOk result (works stack.new
+        ≡ p.do_turns (layout frame.now) (typed_statement a.now) (typed_tree test.now) at next ++ works stack.old) }
 {
     let turn = at + statement_size(a, frame.maker);
     put(stack, jump(at))?;
@@ -224,7 +236,8 @@ fn open_may_test<'a>(
     next: u32,
 ) -> Result<(), NoMemory>
     requires { at + z.test_size (optional_typed_tree test.now) < 2 ^ 32 }
-    ensures { OnOk result (works stack.new ≡ p.opened_test (layout frame.now) (optional_typed_tree test.now) at next ++ works stack.old) }
+    ensures { OnOk result
+        (works stack.new ≡ p.opened_test (layout frame.now) (optional_typed_tree test.now) at next ++ works stack.old) }
 {
     match test {
         None => Ok(()),
@@ -243,7 +256,8 @@ fn open_step<'a>(
     at: u32,
 ) -> Result<(), NoMemory>
     requires { at + z.step_size (optional_typed_tree step.now) < 2 ^ 32 }
-    ensures { OnOk result (works stack.new ≡ p.opened_step (layout frame.now) (optional_typed_tree step.now) at ++ works stack.old) }
+    ensures { OnOk result
+        (works stack.new ≡ p.opened_step (layout frame.now) (optional_typed_tree step.now) at ++ works stack.old) }
 {
     match step {
         None => Ok(()),
@@ -260,8 +274,10 @@ fn open_turns<'a>(
     a: &'a TypedStmt,
     course: Course,
 ) -> Result<(), NoMemory>
-    requires { course.at + z.test_size (optional_typed_tree test.now) + z.statement_size frame.now.maker (typed_statement a.now) + z.step_size (optional_typed_tree step.now) < 2 ^ 32 }
-    ensures { OnOk result (works stack.new ≡ p.for_turns (layout frame.now) (optional_typed_tree test.now) (optional_typed_tree step.now) (typed_statement a.now) course.at course.next ++ works stack.old) }
+    requires { course.at + z.test_size (optional_typed_tree test.now) + z.statement_size frame.now.maker
+        (typed_statement a.now) + z.step_size (optional_typed_tree step.now) < 2 ^ 32 }
+    ensures { OnOk result (works stack.new ≡ p.for_turns (layout frame.now) (optional_typed_tree test.now)
+        (optional_typed_tree step.now) (typed_statement a.now) course.at course.next ++ works stack.old) }
 {
     let body = course.at + test_size(test);
     let step_at = body + statement_size(a, frame.maker);
@@ -301,7 +317,8 @@ fn open_for_of<'a>(
 ) -> Result<(), NoMemory>
     requires locals { frame.now.params + suc (suc i) < 2 ^ 32 }
     requires places { course.at + z.size (typed_tree list.now) + 3 + z.item_size < 2 ^ 32 }
-    ensures { OnOk result (works stack.new ≡ p.item_turns (layout frame.now) i (typed_tree list.now) (typed_statement a.now) course.at course.next ++ works stack.old) }
+    ensures { OnOk result (works stack.new ≡ p.item_turns (layout frame.now) i (typed_tree list.now)
+        (typed_statement a.now) course.at course.next ++ works stack.old) }
 {
     let item = frame.params + i;
     let turn = course.at + size_of(list) + 1 + 1 + 1;
@@ -321,8 +338,10 @@ pub(crate) fn open_statement<'a>(
     s: &'a TypedStmt,
     course: Course,
 ) -> Result<(), NoMemory>
-    requires { WorkFits (layout frame.now) (p.Expand (typed_statement s.now) course.at course.next course.out course.again) }
-    ensures { OnOk result (works stack.new ≡ p.opened_statement (layout frame.now) (typed_statement s.now) course.at course.next course.out course.again ++ works stack.old) }
+    requires { WorkFits (layout frame.now)
+        (p.Expand (typed_statement s.now) course.at course.next course.out course.again) }
+    ensures { OnOk result (works stack.new ≡ p.opened_statement (layout frame.now)
+        (typed_statement s.now) course.at course.next course.out course.again ++ works stack.old) }
 {
     let at = course.at;
     let next = course.next;
@@ -370,8 +389,10 @@ pub(crate) fn open_statements<'a>(
     all: &'a [TypedStmt],
     course: Course,
 ) -> Result<(), NoMemory>
-    requires { WorkFits (layout frame.now) (p.ExpandAll (typed_statements all.now) course.at course.next course.out course.again) }
-    ensures { OnOk result (works stack.new ≡ p.opened_statements (layout frame.now) (typed_statements all.now) course.at course.next course.out course.again ++ works stack.old) }
+    requires { WorkFits (layout frame.now)
+        (p.ExpandAll (typed_statements all.now) course.at course.next course.out course.again) }
+    ensures { OnOk result (works stack.new ≡ p.opened_statements (layout frame.now)
+        (typed_statements all.now) course.at course.next course.out course.again ++ works stack.old) }
 {
     match all {
         [] => Ok(()),

@@ -52,7 +52,8 @@ pub(crate) fn evaluate<'a>(
     at: u32,
 ) -> Result<(), NoMemory>
     requires { at + z.size (typed_tree a.now) < 2 ^ 32 }
-    ensures { OnOk result (works stack.new ≡ p.Value (typed_tree a.now) d at (at + z.size (typed_tree a.now)) ∷ works stack.old) }
+    ensures { OnOk result
+        (works stack.new ≡ p.Value (typed_tree a.now) d at (at + z.size (typed_tree a.now)) ∷ works stack.old) }
 {
     let next = at + size_of(a);
     push_value(stack, a, Site { d, at, next })

@@ -112,13 +112,16 @@ abbrev mutual
   evals (e.Choice u test a b) k = evals test (Choose (evals a k) (evals b k))
   evals (e.Set u None x r) k = reaches x (λ s. evals r (Store s k)) (λ f. evals r (Write f k)) (evals r (SetAt k))
   evals (e.Set u (Some op) x r) k =
-      reaches x (λ s. Get s (evals r (Apply op (Store s k)))) (λ f. Peek f (evals r (Apply op (Write f k)))) (PeekAt (evals r (Apply op (SetAt k))))
-  evals (e.Bump u x by late) k = by_one by (reaches x (λ s. Bump s by late k) (λ f. BumpField f by late k) (BumpAt by late k))
+      reaches x (λ s. Get s (evals r (Apply op (Store s k)))) (λ f. Peek f (evals r (Apply op (Write f k))))
+      (PeekAt (evals r (Apply op (SetAt k))))
+  evals (e.Bump u x by late) k =
+      by_one by (reaches x (λ s. Bump s by late k) (λ f. BumpField f by late k) (BumpAt by late k))
   evals (e.Field u a f) k = evals a (Read f k)
   evals (e.Length u a) k = evals a (Measure k)
   evals (e.Item u a i) k = evals a (evals i (At k))
   evals (e.Call u f args) k = (let all = arguments f (evals_each args) in chained all (calls f (length all) k))
-  evals (e.SuperCall u f args) k = (let all = evals_each args in Get (Param 0) (chained all (Invoke f (suc (length all)) k)))
+  evals (e.SuperCall u f args) k =
+      (let all = evals_each args in Get (Param 0) (chained all (Invoke f (suc (length all)) k)))
   evals (e.Make u class args) k = (let all = evals_each args in chained all (New class (Build class (length all) k)))
   evals (e.Items u items) k = (let all = evals_each items in Open (item_of u) (length all) (appended all k))
   evals (e.Handler u f) k = Put (Code f) k
@@ -172,9 +175,11 @@ module _ (maker : Bool) where
     runs (e.IfOnly test a) b c k = evals test (Choose (runs a b c k) k)
     runs (e.IfElse test a o) b c k = evals test (Choose (runs a b c k) (runs o b c k))
     runs (e.While test a) b c k = (let turn = Again (e.While test a) k in evals test (Choose (runs a k turn turn) k))
-    runs (e.DoWhile a test) b c k = (let turn = evals test (Choose (Again (e.DoWhile a test) k) k) in runs a k turn turn)
+    runs (e.DoWhile a test) b c k =
+        (let turn = evals test (Choose (Again (e.DoWhile a test) k) k) in runs a k turn turn)
     runs (e.For first test step a) b c k =
-        (let turn = steps step (Again (e.For e.omitted test step a) k) in runs_first first b c (tests test (runs a k turn turn) k))
+        (let turn = steps step (Again (e.For e.omitted test step a) k) in
+        runs_first first b c (tests test (runs a k turn turn) k))
     runs (e.ForOf fixed (Local i) list a) b c k =
         evals list (Store (Local (suc i)) (Drop (Put default (Store (Local (suc (suc i))) (Drop (Each i a k))))))
     runs (e.ForOf fixed x list a) b c k = Impossible

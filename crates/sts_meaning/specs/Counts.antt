@@ -19,7 +19,8 @@ steps_within K (suc n) w = if over w.board then 0 else suc (steps_within K n (ti
 -- two globals, a number and an object, and three locals.
 abbrev pub main_does : List TypedStatement → TypedProgram
 main_does all =
-    program (class None (t.Number ∷ []) (1 ∷ []) 0 ∷ class (Some 0) (t.Number ∷ []) (1 ∷ []) 3 ∷ []) (t.Number ∷ t.Object 0 ∷ [])
+    program (class None (t.Number ∷ []) (1 ∷ []) 0 ∷ class (Some 0) (t.Number ∷ []) (1 ∷ []) 3 ∷ [])
+    (t.Number ∷ t.Object 0 ∷ [])
     (function (t.Object 0 ∷ []) [] (t.Object 0) [] ∷ function (t.Object 0 ∷ []) [] t.Nothing [] ∷ plain []
     ∷ function (t.Object 1 ∷ []) [] (t.Object 1) (does (e.SuperCall (t.Object 0) 0 e.none) ∷ [])
     ∷ function [] (t.Number ∷ numbers_type ∷ t.Number ∷ []) t.Nothing all ∷ [])

@@ -89,7 +89,8 @@ last_of (r ∷ (s ∷ rest)) = suc (last_of (s ∷ rest))
 
 -- a program whose main function is the last one
 abbrev pub program : List ClassEntry → List ValueType → List TypedRoutine → TypedProgram
-program classes globals functions = record { classes = classes; functions = functions; globals = globals; main = last_of functions }
+program classes globals functions =
+    record { classes = classes; functions = functions; globals = globals; main = last_of functions }
 
 -- a program without classes and globals
 abbrev pub simple : List TypedRoutine → TypedProgram

@@ -32,7 +32,8 @@ with_cell n c h = record h { cells = with_entry n (Some c) h.cells }
 
 -- a global is set; one that isn't there is none
 abbrev pub write_global : {N : Type 0} → HeapOf N → ℕ → Value → Outcome (HeapOf N)
-write_global h g v = then_gives (there (entry h.globals g)) (λ old. Gives (record h { globals = changed h.globals g v }))
+write_global h g v =
+    then_gives (there (entry h.globals g)) (λ old. Gives (record h { globals = changed h.globals g v }))
 
 abbrev pub fields_of : {N : Type 0} → Option (CellOf N) → Outcome (ℕ × List Value)
 fields_of (Some (Fields class fields)) = Gives (class, fields)
@@ -79,7 +80,9 @@ abbrev pub read_field : {N : Type 0} → HeapOf N → Value → ℕ → Outcome 
 read_field h o f = then_gives (object_at h o) (λ c. there (entry c.1 f))
 
 abbrev pub write_field : {N : Type 0} → HeapOf N → Value → ℕ → Value → Outcome (HeapOf N)
-write_field h o f v = then_gives (object_at h o) (λ c. then_gives (there (entry c.1 f)) (λ old. Gives (put_fields o c.0 (changed c.1 f v) h)))
+write_field h o f v =
+    then_gives (object_at h o)
+    (λ c. then_gives (there (entry c.1 f)) (λ old. Gives (put_fields o c.0 (changed c.1 f v) h)))
 
 -- an index, and the item there; an index before the first item or behind the last is a panic
 abbrev pub found : ℕ → Option Value → Outcome (ℕ × Value)
@@ -95,7 +98,9 @@ abbrev pub read_item : {N : Type 0} → HeapOf N → Value → Value → Outcome
 read_item h a i = then_gives (array_at h a) (λ r. then_gives (item_at r.items i) (λ x. Gives x.1))
 
 abbrev pub write_item : {N : Type 0} → HeapOf N → Value → Value → Value → Outcome (HeapOf N)
-write_item h a i v = then_gives (array_at h a) (λ r. then_gives (item_at r.items i) (λ x. Gives (put_items a r (changed r.items x.0 v) h)))
+write_item h a i v =
+    then_gives (array_at h a)
+    (λ r. then_gives (item_at r.items i) (λ x. Gives (put_items a r (changed r.items x.0 v) h)))
 
 abbrev pub length_at : {N : Type 0} → HeapOf N → Value → Outcome Value
 length_at h a = then_gives (array_at h a) (λ r. Gives (Whole (pos (length r.items))))
@@ -105,7 +110,8 @@ abbrev pub growth : {N : Type 0} → RowOf N → ℕ
 growth r = if nat_lt (length r.items) r.room then 0 else wider_room r.room
 
 abbrev pub wider : {N : Type 0} → RowOf N → RowOf N
-wider r = if nat_lt (length r.items) r.room then r else record { item = r.item; room = wider_room r.room; items = r.items }
+wider r =
+    if nat_lt (length r.items) r.room then r else record { item = r.item; room = wider_room r.room; items = r.items }
 
 abbrev pub pushed : {N : Type 0} → HeapOf N → Value → Value → Outcome (ℕ × HeapOf N)
 pushed h a v = then_gives (array_at h a) (λ r. Gives (growth r, put_items a (wider r) (r.items ++ v ∷ []) h))
@@ -121,7 +127,8 @@ last [] = None
 last (v ∷ vs) = behind v (last vs)
 
 -- the last item, and the array without it; an empty array has none, which is a panic
-abbrev pub shorter : {N : Type 0} → HeapOf N → Value → RowOf N → Option (Value × List Value) → Outcome (Value × HeapOf N)
+abbrev pub shorter : {N : Type 0} → HeapOf N → Value → RowOf N → Option (Value × List Value)
+    → Outcome (Value × HeapOf N)
 shorter h a r None = Breaks index_panic
 shorter h a r (Some x) = Gives (x.0, put_items a r x.1 h)
 

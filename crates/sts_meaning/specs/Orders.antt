@@ -55,7 +55,8 @@ growing_list =
     (function [] (t.Number ∷ numbers_type ∷ t.Number ∷ []) t.Nothing
     (let_global 0 (list (num 1 ∷ num 2 ∷ []))
     ∷ e.ForOf false (Local 0) numbers (e.Block (e.also (says (local t.Number 0))
-    (e.also (e.IfOnly (equal (local t.Number 0) (num 1)) (does (e.Call t.Nothing c.Push (args (numbers ∷ num 3 ∷ []))))) e.done))) ∷ []) ∷ [])
+    (e.also (e.IfOnly (equal (local t.Number 0) (num 1)) (does (e.Call t.Nothing c.Push (args (numbers ∷ num 3 ∷ [])))))
+    e.done))) ∷ []) ∷ [])
 
 -- for (let x of make()), where make() writes 5 and gives [1, 2]: the list is evaluated once; with `continue` and `break`
 abbrev pub list_evaluated_once : TypedProgram
@@ -63,11 +64,13 @@ list_evaluated_once =
     simple (function [] [] numbers_type (says (num 5) ∷ returns (list (num 1 ∷ num 2 ∷ num 3 ∷ num 4 ∷ [])) ∷ [])
     ∷ function [] (t.Number ∷ numbers_type ∷ t.Number ∷ []) t.Nothing
     (e.ForOf true (Local 0) (call numbers_type 0 []) (e.Block
-    (e.also (e.IfOnly (equal (local t.Number 0) (num 2)) e.Continue) (e.also (e.IfOnly (equal (local t.Number 0) (num 4)) e.Break) (e.also (says (local t.Number 0)) e.done)))) ∷ []) ∷ [])
+    (e.also (e.IfOnly (equal (local t.Number 0) (num 2)) e.Continue) (e.also
+    (e.IfOnly (equal (local t.Number 0) (num 4)) e.Break) (e.also (says (local t.Number 0)) e.done)))) ∷ []) ∷ [])
 
 -- p.x = tell(7) where p is null: null is tested at the store
 abbrev pub with_null : List TypedStatement → TypedProgram
-with_null all = program (point ∷ []) (t.Object 0 ∷ []) (make_point ∷ telling ∷ plain (let_global 0 (e.Null t.NullType) ∷ all) ∷ [])
+with_null all =
+    program (point ∷ []) (t.Object 0 ∷ []) (make_point ∷ telling ∷ plain (let_global 0 (e.Null t.NullType) ∷ all) ∷ [])
 
 abbrev pub x_of_p : TypedTree
 x_of_p = e.Field t.Number (global (t.Object 0) 0) 0
@@ -81,11 +84,15 @@ field_added_through_null = with_null (adds x_of_p (tell 1 7) ∷ [])
 
 -- get(n) { return this.x + n }, of P
 abbrev pub get : TypedRoutine
-get = function (t.Object 0 ∷ t.Number ∷ []) [] t.Number (returns (binary 13 (e.Field t.Number (e.This (t.Object 0)) 0) (param t.Number 1)) ∷ [])
+get =
+    function (t.Object 0 ∷ t.Number ∷ []) [] t.Number
+    (returns (binary 13 (e.Field t.Number (e.This (t.Object 0)) 0) (param t.Number 1)) ∷ [])
 
 -- get(n) { return super.get(n) * 10 }, of Q
 abbrev pub scaled_get : TypedRoutine
-scaled_get = function (t.Object 1 ∷ t.Number ∷ []) [] t.Number (returns (binary 15 (e.SuperCall t.Number 2 (args (param t.Number 1 ∷ []))) (num 10)) ∷ [])
+scaled_get =
+    function (t.Object 1 ∷ t.Number ∷ []) [] t.Number
+    (returns (binary 15 (e.SuperCall t.Number 2 (args (param t.Number 1 ∷ []))) (num 10)) ∷ [])
 
 abbrev pub make_scaled : TypedRoutine
 make_scaled = function (t.Object 1 ∷ []) [] (t.Object 1) (does (e.SuperCall (t.Object 0) 0 e.none) ∷ [])
@@ -97,14 +104,17 @@ scaled = class (Some 0) (t.Number ∷ []) (3 ∷ []) 4
 abbrev pub uses_methods : TypedRoutine
 uses_methods =
     (let p = global (t.Object 0) 0 in
-    plain (let_global 0 (e.Make (t.Object 0) 0 e.none) ∷ says (send t.Number 0 (p ∷ num 1 ∷ [])) ∷ does (e.Set (t.Object 0) None p (e.Make (t.Object 1) 1 e.none))
-    ∷ says (send t.Number 0 (p ∷ num 2 ∷ [])) ∷ does (e.Set (t.Object 0) None p (e.Null t.NullType)) ∷ says (send t.Number 0 (p ∷ tell 1 7 ∷ [])) ∷ []))
+    plain (let_global 0 (e.Make (t.Object 0) 0 e.none) ∷ says (send t.Number 0 (p ∷ num 1 ∷ []))
+    ∷ does (e.Set (t.Object 0) None p (e.Make (t.Object 1) 1 e.none))
+    ∷ says (send t.Number 0 (p ∷ num 2 ∷ [])) ∷ does (e.Set (t.Object 0) None p (e.Null t.NullType))
+    ∷ says (send t.Number 0 (p ∷ tell 1 7 ∷ [])) ∷ []))
 
 -- class P { x = 4; get(n) .. }, class Q extends P { get(n) .. }
 -- let p = new P(); serial.writeNumber(p.get(1)); p = new Q(); serial.writeNumber(p.get(2)); p = null; p.get(tell(7)): null is tested behind the arguments
 abbrev pub methods : TypedProgram
 methods =
-    program (class None (t.Number ∷ []) (2 ∷ []) 0 ∷ scaled ∷ []) (t.Object 0 ∷ []) (make_point ∷ telling ∷ get ∷ scaled_get ∷ make_scaled ∷ uses_methods ∷ [])
+    program (class None (t.Number ∷ []) (2 ∷ []) 0 ∷ scaled ∷ []) (t.Object 0 ∷ [])
+    (make_point ∷ telling ∷ get ∷ scaled_get ∷ make_scaled ∷ uses_methods ∷ [])
 
 -- class A { x = tell(1); constructor () { tell(2) } }, class B extends A { y = tell(4); constructor (n) { super(); tell(5) } }
 -- serial.writeNumber(new B(tell(0)).y): the argument, then the base's field and constructor, then the class's own
@@ -112,9 +122,11 @@ abbrev pub constructors : TypedProgram
 constructors =
     program (class None (t.Number ∷ []) [] 1 ∷ class (Some 0) (t.Number ∷ t.Number ∷ []) [] 2 ∷ []) []
     (telling
-    ∷ function (t.Object 0 ∷ []) [] (t.Object 0) (sets (e.Field t.Number (e.This (t.Object 0)) 0) (tell 0 1) ∷ does (tell 0 2) ∷ [])
+    ∷ function (t.Object 0 ∷ []) [] (t.Object 0)
+    (sets (e.Field t.Number (e.This (t.Object 0)) 0) (tell 0 1) ∷ does (tell 0 2) ∷ [])
     ∷ function (t.Object 1 ∷ t.Number ∷ []) [] (t.Object 1)
-    (does (e.SuperCall (t.Object 0) 1 e.none) ∷ sets (e.Field t.Number (e.This (t.Object 1)) 1) (tell 0 4) ∷ does (tell 0 5) ∷ e.Return None ∷ [])
+    (does (e.SuperCall (t.Object 0) 1 e.none) ∷ sets (e.Field t.Number (e.This (t.Object 1)) 1) (tell 0 4)
+    ∷ does (tell 0 5) ∷ e.Return None ∷ [])
     ∷ plain (says (e.Field t.Number (e.Make (t.Object 1) 1 (args (tell 0 3 ∷ []))) 1) ∷ []) ∷ [])
 
 abbrev pub truths : Bool → TypedTree
@@ -126,31 +138,36 @@ early_stops =
     simple (function [] [] t.Boolean (says (num 9) ∷ returns (truths true) ∷ [])
     ∷ plain (e.IfElse (e.Both t.Boolean (truths false) (call t.Boolean 0 [])) (says (num 1)) (says (num 2))
     ∷ e.IfElse (e.Either t.Boolean (truths true) (call t.Boolean 0 [])) (says (num 3)) (says (num 4))
-    ∷ says (e.Choice t.Number (truths false) (num 5) (num 6)) ∷ e.IfOnly (e.Both t.Boolean (truths true) (call t.Boolean 0 [])) (says (num 7)) ∷ []) ∷ [])
+    ∷ says (e.Choice t.Number (truths false) (num 5) (num 6))
+    ∷ e.IfOnly (e.Both t.Boolean (truths true) (call t.Boolean 0 [])) (says (num 7)) ∷ []) ∷ [])
 
 -- let i = 5; serial.writeNumber(i++); serial.writeNumber(i); serial.writeNumber(--i); serial.writeNumber(i -= 3); do { i++ } while (i < 4); serial.writeNumber(i)
 abbrev pub steps_of_a_name : TypedProgram
 steps_of_a_name =
     (let i = local t.Number 0 in
     simple (function [] (t.Number ∷ []) t.Nothing
-    (let_local 0 (num 5) ∷ says (e.Bump t.Number i (pos 1) true) ∷ says i ∷ says (e.Bump t.Number i (negsuc 0) false) ∷ says (e.Set t.Number (Some 14) i (num 3))
+    (let_local 0 (num 5) ∷ says (e.Bump t.Number i (pos 1) true) ∷ says i ∷ says (e.Bump t.Number i (negsuc 0) false)
+    ∷ says (e.Set t.Number (Some 14) i (num 3))
     ∷ e.DoWhile (does (e.Bump t.Number i (pos 1) true)) (less i (num 4)) ∷ says i ∷ []) ∷ []))
 
 -- a function that runs off its end gives 0, and a name that is not set yet is 0
 abbrev pub unset : TypedProgram
 unset =
-    program [] (t.Number ∷ []) (function [] [] t.Number [] ∷ plain (says (call t.Number 0 []) ∷ says (global t.Number 0) ∷ let_global 0 (num 3) ∷ says (global t.Number 0) ∷ []) ∷ [])
+    program [] (t.Number ∷ []) (function [] [] t.Number [] ∷ plain
+    (says (call t.Number 0 []) ∷ says (global t.Number 0) ∷ let_global 0 (num 3) ∷ says (global t.Number 0) ∷ []) ∷ [])
 
 -- serial.writeNumber(-1 >>> 28); serial.writeNumber(-9 >> 1); serial.writeNumber(1 << 33); serial.writeNumber(2147483647 + 1); serial.writeNumber(65536 * 65536 + -7 / 2)
 abbrev pub numbers_of_32_bits : TypedProgram
 numbers_of_32_bits =
-    simple (plain (says (binary 12 (minus 0) (num 28)) ∷ says (binary 11 (minus 8) (num 1)) ∷ says (binary 10 (num 1) (num 33)) ∷ says (binary 13 (num 2147483647) (num 1))
+    simple (plain (says (binary 12 (minus 0) (num 28)) ∷ says (binary 11 (minus 8) (num 1))
+    ∷ says (binary 10 (num 1) (num 33)) ∷ says (binary 13 (num 2147483647) (num 1))
     ∷ says (binary 13 (binary 15 (num 65536) (num 65536)) (binary 16 (minus 6) (num 2))) ∷ []) ∷ [])
 
 -- for (let i = 0; i < 2; i++) { let x: number; serial.writeNumber(x); x = 7 }: x is 0 each time
 abbrev pub set_each_time : TypedProgram
 set_each_time =
     simple (function [] (t.Number ∷ t.Number ∷ []) t.Nothing
-    (e.For (e.written (let_local 0 (num 0))) (Some (less (local t.Number 0) (num 2))) (Some (e.Bump t.Number (local t.Number 0) (pos 1) true))
+    (e.For (e.written (let_local 0 (num 0))) (Some (less (local t.Number 0) (num 2)))
+    (Some (e.Bump t.Number (local t.Number 0) (pos 1) true))
     (e.Block (e.also (e.Let false (record { name = Local 1; first = None } ∷ []))
     (e.also (says (local t.Number 1)) (e.also (sets (local t.Number 1) (num 7)) e.done)))) ∷ []) ∷ [])

@@ -39,15 +39,20 @@ counted n P = (let end = after n P 1000 [] in transcript_of end ++ stats_of end)
 
 -- serial.writeNumber(7 / 0); serial.writeNumber(-7 % 2)
 abbrev pub division : TypedProgram
-division = simple (plain (says (binary 16 (num 7) (num 0)) ∷ says (binary 17 (e.Unary t.Number 1 (num 7)) (num 2)) ∷ []) ∷ [])
+division =
+    simple (plain (says (binary 16 (num 7) (num 0)) ∷ says (binary 17 (e.Unary t.Number 1 (num 7)) (num 2)) ∷ []) ∷ [])
 
 -- basic.forever(function () { led.toggle(0, 0) })
 abbrev pub blinking : TypedProgram
-blinking = simple (plain (does (board b.Toggle (num 0 ∷ num 0 ∷ [])) ∷ []) ∷ plain (does (board b.Forever (handler 0 ∷ [])) ∷ []) ∷ [])
+blinking =
+    simple (plain (does (board b.Toggle (num 0 ∷ num 0 ∷ [])) ∷ [])
+    ∷ plain (does (board b.Forever (handler 0 ∷ [])) ∷ []) ∷ [])
 
 -- function deep(n: number): number { let k = n * 3; basic.pause(5); return k }
 abbrev pub deep : TypedRoutine
-deep = function (t.Number ∷ []) (t.Number ∷ []) t.Number (let_local 0 (binary 15 (param t.Number 0) (num 3)) ∷ pauses 5 ∷ returns (local t.Number 0) ∷ [])
+deep =
+    function (t.Number ∷ []) (t.Number ∷ []) t.Number
+    (let_local 0 (binary 15 (param t.Number 0) (num 3)) ∷ pauses 5 ∷ returns (local t.Number 0) ∷ [])
 
 -- function mid(n: number): number { let m = n + 1; let r = deep(m); return m * 100 + r }
 abbrev pub mid : TypedRoutine
@@ -61,7 +66,8 @@ abbrev pub four_names : TypedRoutine
 four_names =
     function [] (t.Number ∷ t.Number ∷ t.Number ∷ t.Number ∷ []) t.Nothing
     (let_local 0 (num 11) ∷ let_local 1 (num 22) ∷ let_local 2 (num 33) ∷ let_local 3 (num 44)
-    ∷ says (binary 13 (binary 13 (binary 13 (local t.Number 0) (local t.Number 1)) (local t.Number 2)) (local t.Number 3)) ∷ [])
+    ∷ says (binary 13 (binary 13 (binary 13 (local t.Number 0) (local t.Number 1)) (local t.Number 2))
+    (local t.Number 3)) ∷ [])
 
 abbrev pub listens : ℕ → ℕ → ℕ → TypedStatement
 listens source value f = does (board b.OnEvent (num source ∷ num value ∷ handler f ∷ []))
@@ -75,17 +81,20 @@ raises_now source value = does (board b.RaiseNow (num source ∷ num value ∷ [
 -- two handlers of one event, of which the first calls `mid(6)` and pauses in it
 abbrev pub deep_handlers : TypedProgram
 deep_handlers =
-    simple (deep ∷ mid ∷ plain (says (call t.Number 1 (num 6 ∷ [])) ∷ []) ∷ four_names ∷ plain (listens 50 1 2 ∷ listens 50 1 3 ∷ raises 50 1 ∷ []) ∷ [])
+    simple (deep ∷ mid ∷ plain (says (call t.Number 1 (num 6 ∷ [])) ∷ []) ∷ four_names
+    ∷ plain (listens 50 1 2 ∷ listens 50 1 3 ∷ raises 50 1 ∷ []) ∷ [])
 
 -- control.onEvent(50, 1, function () { basic.pause(5); serial.writeNumber(1) }); control.onEvent(50, 1, function () { serial.writeNumber(2) }); control.raiseEvent(50, 1)
 abbrev pub two_handlers : TypedProgram
 two_handlers =
-    simple (plain (pauses 5 ∷ says (num 1) ∷ []) ∷ plain (says (num 2) ∷ []) ∷ plain (listens 50 1 0 ∷ listens 50 1 1 ∷ raises 50 1 ∷ []) ∷ [])
+    simple (plain (pauses 5 ∷ says (num 1) ∷ []) ∷ plain (says (num 2) ∷ [])
+    ∷ plain (listens 50 1 0 ∷ listens 50 1 1 ∷ raises 50 1 ∷ []) ∷ [])
 
 -- function f(n: number): void { serial.writeNumber(n); f(n + 1) }, called with this number
 abbrev pub endless : ℕ → TypedProgram
 endless n =
-    simple (function (t.Number ∷ []) [] t.Nothing (says (param t.Number 0) ∷ does (call t.Nothing 0 (binary 13 (param t.Number 0) (num 1) ∷ [])) ∷ [])
+    simple (function (t.Number ∷ []) [] t.Nothing
+    (says (param t.Number 0) ∷ does (call t.Nothing 0 (binary 13 (param t.Number 0) (num 1) ∷ [])) ∷ [])
     ∷ plain (does (call t.Nothing 0 (num n ∷ [])) ∷ []) ∷ [])
 
 -- function w(): void { control.waitForEvent(60, 1) }; for (let i = 0; i < n; i++) { control.inBackground(w) }
@@ -94,33 +103,39 @@ abbrev pub seats : ℕ → TypedProgram
 seats n =
     simple (plain (does (board b.WaitForEvent (num 60 ∷ num 1 ∷ [])) ∷ []) ∷ plain (says (num 7) ∷ [])
     ∷ function [] (t.Number ∷ []) t.Nothing
-    (e.For (e.written (let_local 0 (num 0))) (Some (less (local t.Number 0) (num n))) (Some (e.Bump t.Number (local t.Number 0) (pos 1) true))
+    (e.For (e.written (let_local 0 (num 0))) (Some (less (local t.Number 0) (num n)))
+    (Some (e.Bump t.Number (local t.Number 0) (pos 1) true))
     (e.Block (e.also (does (board b.InBackground (handler 0 ∷ []))) e.done)) ∷ listens 61 1 1 ∷ raises 61 1 ∷ []) ∷ [])
 
 -- let a = [1, 2, 3]; serial.writeNumber(a[a.length])
 abbrev pub past_the_end : TypedProgram
 past_the_end =
     (let a = global numbers_type 0 in
-    program [] (numbers_type ∷ []) (plain (let_global 0 (list (num 1 ∷ num 2 ∷ num 3 ∷ [])) ∷ says (item a (e.Length t.Number a)) ∷ []) ∷ []))
+    program [] (numbers_type ∷ [])
+    (plain (let_global 0 (list (num 1 ∷ num 2 ∷ num 3 ∷ [])) ∷ says (item a (e.Length t.Number a)) ∷ []) ∷ []))
 
 -- class P { x: number = 4 }
 abbrev pub point : ClassEntry
 point = class None (t.Number ∷ []) [] 0
 
 abbrev pub make_point : TypedRoutine
-make_point = function (t.Object 0 ∷ []) [] (t.Object 0) (does (e.Set t.Number None (e.Field t.Number (e.This (t.Object 0)) 0) (num 4)) ∷ [])
+make_point =
+    function (t.Object 0 ∷ []) [] (t.Object 0)
+    (does (e.Set t.Number None (e.Field t.Number (e.This (t.Object 0)) 0) (num 4)) ∷ [])
 
 -- let p: P = null; serial.writeNumber(p.x)
 abbrev pub through_null : TypedProgram
 through_null =
-    program (point ∷ []) (t.Object 0 ∷ []) (make_point ∷ plain (let_global 0 (e.Null t.NullType) ∷ says (e.Field t.Number (global (t.Object 0) 0) 0) ∷ []) ∷ [])
+    program (point ∷ []) (t.Object 0 ∷ []) (make_point
+    ∷ plain (let_global 0 (e.Null t.NullType) ∷ says (e.Field t.Number (global (t.Object 0) 0) 0) ∷ []) ∷ [])
 
 -- control.onEvent(80, 1, function () { serial.writeNumber(1); basic.pause(5); serial.writeNumber(2) })
 -- function go(): void { let k = 9; control.raiseNow(80, 1); serial.writeNumber(k) }; go(), so many times
 abbrev pub at_once : ℕ → TypedProgram
 at_once n =
     simple (function [] (t.Number ∷ []) t.Nothing (let_local 0 (num 9) ∷ raises_now 80 1 ∷ says (local t.Number 0) ∷ [])
-    ∷ plain (says (num 1) ∷ pauses 5 ∷ says (num 2) ∷ []) ∷ plain (listens 80 1 1 ∷ repeated n (does (call t.Nothing 0 []))) ∷ [])
+    ∷ plain (says (num 1) ∷ pauses 5 ∷ says (num 2) ∷ [])
+    ∷ plain (listens 80 1 1 ∷ repeated n (does (call t.Nothing 0 []))) ∷ [])
 
 -- control.onEventFlags(81, 1, function () { let .., so many names; control.raiseNow(81, 1) }, EventFlags.Reentrant); control.raiseNow(81, 1)
 abbrev pub endless_raisers : ℕ → TypedProgram
@@ -135,7 +150,8 @@ busy mode n =
     simple (plain (pauses 5 ∷ says (board b.EventValue []) ∷ [])
     ∷ function [] (t.Number ∷ []) t.Nothing
     (does (board b.OnEventFlags (num 50 ∷ num 0 ∷ handler 0 ∷ num mode ∷ []))
-    ∷ e.For (e.written (let_local 0 (num 1))) (Some (e.Binary t.Boolean 8 (local t.Number 0) (num n))) (Some (e.Bump t.Number (local t.Number 0) (pos 1) true))
+    ∷ e.For (e.written (let_local 0 (num 1))) (Some (e.Binary t.Boolean 8 (local t.Number 0) (num n)))
+    (Some (e.Bump t.Number (local t.Number 0) (pos 1) true))
     (does (board b.RaiseEvent (num 50 ∷ local t.Number 0 ∷ []))) ∷ []) ∷ [])
 
 -- let n = 0; function f(): void { n++; if (n == 136) { serial.writeNumber(n) } f() }; { let a; let b }; f()
@@ -144,9 +160,11 @@ abbrev pub deepest : TypedProgram
 deepest =
     (let n = global t.Number 0 in
     program [] (t.Number ∷ [])
-    (plain (does (e.Bump t.Number n (pos 1) true) ∷ e.IfOnly (equal n (num 136)) (says n) ∷ does (call t.Nothing 0 []) ∷ [])
+    (plain (does (e.Bump t.Number n (pos 1) true) ∷ e.IfOnly (equal n (num 136)) (says n)
+    ∷ does (call t.Nothing 0 []) ∷ [])
     ∷ function [] (t.Number ∷ t.Number ∷ []) t.Nothing
-    (e.Block (e.also (e.Let false (record { name = Local 0; first = None } ∷ (record { name = Local 1; first = None } ∷ []))) e.done) ∷ does (call t.Nothing 0 []) ∷ []) ∷ []))
+    (e.Block (e.also (e.Let false (record { name = Local 0; first = None }
+    ∷ (record { name = Local 1; first = None } ∷ []))) e.done) ∷ does (call t.Nothing 0 []) ∷ []) ∷ []))
 
 -- let n = 0; while (true) { ..; n++; if (n == last) { serial.writeNumber(n) } }
 abbrev pub filling : List ClassEntry → List TypedRoutine → TypedTree → ℕ → TypedProgram
@@ -154,11 +172,14 @@ filling classes functions made last =
     (let n = global t.Number 0 in
     program classes (t.Number ∷ [])
     (functions ++ plain (e.While (e.Truth t.Boolean true) (e.Block (e.also (does made)
-    (e.also (does (e.Bump t.Number n (pos 1) true)) (e.also (e.IfOnly (equal n (num last)) (says n)) e.done)))) ∷ []) ∷ []))
+    (e.also (does (e.Bump t.Number n (pos 1) true)) (e.also (e.IfOnly (equal n (num last)) (says n)) e.done)))) ∷ [])
+    ∷ []))
 
 -- objects of 31 words: 90 of them take 2790 of the 2816 words of the arena
 abbrev pub many_objects : TypedProgram
-many_objects = filling (class None (repeated 30 t.Number) [] 0 ∷ []) (function (t.Object 0 ∷ []) [] (t.Object 0) [] ∷ []) (e.Make (t.Object 0) 0 e.none) 90
+many_objects =
+    filling (class None (repeated 30 t.Number) [] 0 ∷ []) (function (t.Object 0 ∷ []) [] (t.Object 0) [] ∷ [])
+    (e.Make (t.Object 0) 0 e.none) 90
 
 -- arrays of 64 words: 44 of them take all 2816
 abbrev pub many_arrays : TypedProgram
@@ -181,15 +202,18 @@ abbrev pub texts : TypedProgram
 texts =
     program [] (t.Text ∷ [])
     (plain (does (board b.WriteString (text 0 ∷ [])) ∷ e.IfOnly (equal (text 0) (text 1)) (says (num 1))
-    ∷ e.IfOnly (e.Binary t.Boolean 5 (text 0) (e.Null t.NullType)) (says (num 2)) ∷ does (board b.WriteString (global t.Text 0 ∷ [])) ∷ []) ∷ [])
+    ∷ e.IfOnly (e.Binary t.Boolean 5 (text 0) (e.Null t.NullType)) (says (num 2))
+    ∷ does (board b.WriteString (global t.Text 0 ∷ [])) ∷ []) ∷ [])
 
 -- control.onEvent(9, 0, function () { serial.writeNumber(input.runningTime()) }); basic.clearScreen(); led.plot(1, 0); led.unplot(1, 0)
 -- basic.pause(7); control.raiseEvent(9, 5); basic.pause(1); if (!input.buttonIsPressed(1)) { control.panic(300) }
 abbrev pub questions : TypedProgram
 questions =
     simple (plain (says (board b.RunningTime []) ∷ [])
-    ∷ plain (listens 9 0 0 ∷ does (board b.ClearScreen []) ∷ does (board b.Plot (num 1 ∷ num 0 ∷ [])) ∷ does (board b.Unplot (num 1 ∷ num 0 ∷ []))
-    ∷ pauses 7 ∷ raises 9 5 ∷ pauses 1 ∷ e.IfOnly (e.Unary t.Boolean 3 (board b.ButtonIsPressed (num 1 ∷ []))) (does (board b.Panic (num 300 ∷ []))) ∷ []) ∷ [])
+    ∷ plain (listens 9 0 0 ∷ does (board b.ClearScreen []) ∷ does (board b.Plot (num 1 ∷ num 0 ∷ []))
+    ∷ does (board b.Unplot (num 1 ∷ num 0 ∷ []))
+    ∷ pauses 7 ∷ raises 9 5 ∷ pauses 1 ∷ e.IfOnly (e.Unary t.Boolean 3 (board b.ButtonIsPressed (num 1 ∷ [])))
+    (does (board b.Panic (num 300 ∷ []))) ∷ []) ∷ [])
 
 -- input.onButtonPressed(1, function () { serial.writeNumber(1) })
 abbrev pub presses : TypedProgram
@@ -201,14 +225,17 @@ big_worker =
     (let x = global t.Number 0 in let done = global t.Number 1 in
     program [] (t.Number ∷ t.Number ∷ [])
     (function [] (t.Number ∷ []) t.Nothing
-    (e.For (e.written (let_local 0 (num 0))) (Some (less (local t.Number 0) (num 10))) (Some (e.Bump t.Number (local t.Number 0) (pos 1) true))
+    (e.For (e.written (let_local 0 (num 0))) (Some (less (local t.Number 0) (num 10)))
+    (Some (e.Bump t.Number (local t.Number 0) (pos 1) true))
     (e.Block (e.also (does (e.Set t.Number None x (call t.Number 1 (x ∷ [])))) (e.also (pauses 1) e.done)))
-    ∷ does (e.Set t.Number (Some 13) done (num 1)) ∷ e.IfOnly (equal done (num 5)) (e.Block (e.also (says x) e.done)) ∷ []) ∷ []))
+    ∷ does (e.Set t.Number (Some 13) done (num 1)) ∷ e.IfOnly (equal done (num 5))
+    (e.Block (e.also (says x) e.done)) ∷ []) ∷ []))
 
 -- `blinking`, behind seven functions of a library
 abbrev pub library_and_blinking : TypedProgram
 library_and_blinking =
-    program (point ∷ []) [] (repeated 7 (plain []) ++ (plain (does (board b.Toggle (num 0 ∷ num 0 ∷ [])) ∷ []) ∷ plain (does (board b.Forever (handler 7 ∷ [])) ∷ []) ∷ []))
+    program (point ∷ []) [] (repeated 7 (plain []) ++ (plain (does (board b.Toggle (num 0 ∷ num 0 ∷ [])) ∷ [])
+    ∷ plain (does (board b.Forever (handler 7 ∷ [])) ∷ []) ∷ []))
 
 -- the weights of a program's functions, the last one's first
 abbrev pub weights_from : List TypedRoutine → List ℕ → List ℕ

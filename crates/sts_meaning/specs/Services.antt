@@ -66,7 +66,8 @@ of_event r a b = of_two (λ x y. r (event x y)) a b
 
 abbrev pub of_listener : Value → Value → Value → Value → Outcome Request
 of_listener s v h m =
-    then_gives (whole s) (λ s. then_gives (whole v) (λ v. then_gives (code h) (λ h. then_gives (whole m) (λ m. Gives (Listen (listener s v h m))))))
+    then_gives (whole s) (λ s. then_gives (whole v)
+    (λ v. then_gives (code h) (λ h. then_gives (whole m) (λ m. Gives (Listen (listener s v h m))))))
 
 -- the request of a service; every other number is none
 abbrev pub requested : ℕ → List Value → Outcome Request
@@ -80,13 +81,15 @@ requested service args =
     else if service == TIME then with_none Time args
     else if service == EVENT_VALUE then with_none EventValue args
     else if service == BUTTON then with_one (of_one Button) args
-    else if service == PLOT then with_three (λ a b m. then_gives (whole a) (λ x. then_gives (whole b) (λ y. then_gives (mode m) (λ m. Gives (Plot x y m))))) args
+    else if service == PLOT then with_three (λ a b m.
+    then_gives (whole a) (λ x. then_gives (whole b) (λ y. then_gives (mode m) (λ m. Gives (Plot x y m))))) args
     else if service == SHOW then with_one (of_one Show) args
     else if service == WRITE_NUMBER then with_one (of_one WriteNumber) args
     else if service == WRITE_TEXT then with_one (λ a. then_gives (text a) (λ t. Gives (WriteText t))) args
     else if service == WRITE_PIN then with_two (of_two PinWrite) args
     else if service == SEND then with_one (of_one Radio) args
-    else if service == TEXT_GLYPH then with_two (λ a i. then_gives (text a) (λ t. then_gives (whole i) (λ i. Gives (TextGlyph t i)))) args
+    else if service == TEXT_GLYPH
+    then with_two (λ a i. then_gives (text a) (λ t. then_gives (whole i) (λ i. Gives (TextGlyph t i)))) args
     else if service == NUMBER_GLYPH then with_two (of_two NumberGlyph) args
     else if service == LISTEN_IN_MODE then with_four of_listener args
     else if service == RAISE_NOW then with_two (of_event RaiseNow) args

@@ -48,18 +48,22 @@ module _ (P : TypedProgram) (texts : List ByteList) where
 
   -- the method in a slot of an object's class
   abbrev pub method : Heap → Value → ℕ → Outcome ℕ
-  method h o s = then_gives (object_at h o) (λ c. then_gives (there (entry P.classes c.0)) (λ class. there (entry class.slots s)))
+  method h o s =
+      then_gives (object_at h o) (λ c. then_gives (there (entry P.classes c.0)) (λ class. there (entry class.slots s)))
 
   -- where an activity began, and its depth before a call
   module _ (heap : Heap) (base depth : ℕ) where
     -- a frame begins above those that wait for it; past the greatest depth it is a panic
     abbrev pub entering : Frame → List Frame → Turn Activity Heap
     entering frame waiting =
-        (let deeper = depth + words frame.function in if nat_lt depth_limit deeper then Panics depth_panic else Goes (Runs frame waiting base deeper) heap)
+        (let deeper = depth + words frame.function in if nat_lt depth_limit deeper then Panics depth_panic
+        else Goes (Runs frame waiting base deeper) heap)
 
     -- a call
     abbrev pub invoked : ℕ → List Value → List Frame → Turn Activity Heap
-    invoked f args waiting = after (there (entry P.functions f)) (λ r. after (as_many r.params args) (λ _. entering (entered f r args) waiting))
+    invoked f args waiting =
+        after (there (entry P.functions f))
+        (λ r. after (as_many r.params args) (λ _. entering (entered f r args) waiting))
 
     -- the end of a function: its value goes to the frame that waits for it; behind the last one the activity ends
     abbrev pub ended : ℕ → Value → List Frame → Turn Activity Heap
@@ -70,7 +74,8 @@ module _ (P : TypedProgram) (texts : List ByteList) where
     abbrev pub begun : ℕ → Turn Activity Heap
     begun f =
         if nat_lt f (length P.functions) then invoked f [] []
-        else after (there (entry P.functions (f - length P.functions))) (λ r. entering (entered_round (f - length P.functions)) [])
+        else after (there (entry P.functions (f - length P.functions)))
+        (λ r. entering (entered_round (f - length P.functions)) [])
 
   -- a frame that runs: its function and names, those that wait for it, and the depths
   module _ (heap : Heap) (function : ℕ) (names : Names) (callers : List Frame) (base depth : ℕ) where
@@ -100,7 +105,8 @@ module _ (P : TypedProgram) (texts : List ByteList) where
     takes_item i s vs k None = Goes (now vs k) heap
     takes_item i s vs k (Some x) =
         (let turn = Each i s k in
-        Goes (now_with (with_local i x.1 (with_local (suc (suc i)) (Whole (to_int32 (pos x.0 +ℤ pos 1))) names)) vs (runs (is_maker P.classes function) s k turn turn)) heap)
+        Goes (now_with (with_local i x.1 (with_local (suc (suc i)) (Whole (to_int32 (pos x.0 +ℤ pos 1))) names)) vs
+        (runs (is_maker P.classes function) s k turn turn)) heap)
 
     -- one counted step
     abbrev pub act : Continuation → List Value → Turn Activity Heap
@@ -111,9 +117,12 @@ module _ (P : TypedProgram) (texts : List ByteList) where
     act (Drop k) (v ∷ rest) = act k rest
     act (Unary op k) vs = with_latest vs (λ v rest. after (negated op v) (λ w. Goes (now (w ∷ rest) k) heap))
     act (Apply op k) vs = with_two vs (λ a b rest. after (applied op a b) (λ v. Goes (now (v ∷ rest) k) heap))
-    act (Choose so otherwise) vs = with_latest vs (λ v rest. after (decided v) (λ b. Goes (now rest (if b then so else otherwise)) heap))
-    act (Both so otherwise) vs = with_latest vs (λ v rest. after (decided v) (λ b. Goes (if b then now rest so else now vs otherwise) heap))
-    act (Either so otherwise) vs = with_latest vs (λ v rest. after (decided v) (λ b. Goes (if b then now vs so else now rest otherwise) heap))
+    act (Choose so otherwise) vs =
+        with_latest vs (λ v rest. after (decided v) (λ b. Goes (now rest (if b then so else otherwise)) heap))
+    act (Both so otherwise) vs =
+        with_latest vs (λ v rest. after (decided v) (λ b. Goes (if b then now rest so else now vs otherwise) heap))
+    act (Either so otherwise) vs =
+        with_latest vs (λ v rest. after (decided v) (λ b. Goes (if b then now vs so else now rest otherwise) heap))
     act (Read i k) vs = with_latest vs (λ o rest. after (read_field heap o i) (λ v. Goes (now (v ∷ rest) k) heap))
     act (Peek i k) vs = with_latest vs (λ o rest. after (read_field heap o i) (λ v. Goes (now (v ∷ vs) k) heap))
     act (Write i k) vs = with_two vs (λ o v rest. after (write_field heap o i v) (λ h'. Goes (now (v ∷ rest) k) h'))
@@ -121,29 +130,38 @@ module _ (P : TypedProgram) (texts : List ByteList) where
     act (PeekAt k) vs = with_two vs (λ a i rest. after (read_item heap a i) (λ v. Goes (now (v ∷ vs) k) heap))
     act (SetAt k) vs = with_three vs (λ a i v rest. after (write_item heap a i v) (λ h'. Goes (now (v ∷ rest) k) h'))
     act (Bump x by late k) vs =
-        after (then_gives (named heap names x) (bumped by late)) (λ b. after (stored x b.new names heap) (λ s. Goes (now_with s.0 (b.given ∷ vs) k) s.1))
+        after (then_gives (named heap names x) (bumped by late))
+        (λ b. after (stored x b.new names heap) (λ s. Goes (now_with s.0 (b.given ∷ vs) k) s.1))
     act (BumpField i by late k) vs =
-        with_latest vs (λ o rest. after (then_gives (read_field heap o i) (bumped by late)) (λ b. after (write_field heap o i b.new) (λ h'. Goes (now (b.given ∷ rest) k) h')))
+        with_latest vs (λ o rest. after (then_gives (read_field heap o i) (bumped by late))
+        (λ b. after (write_field heap o i b.new) (λ h'. Goes (now (b.given ∷ rest) k) h')))
     act (BumpAt by late k) vs =
-        with_two vs (λ a i rest. after (then_gives (read_item heap a i) (bumped by late)) (λ b. after (write_item heap a i b.new) (λ h'. Goes (now (b.given ∷ rest) k) h')))
+        with_two vs (λ a i rest. after (then_gives (read_item heap a i) (bumped by late))
+        (λ b. after (write_item heap a i b.new) (λ h'. Goes (now (b.given ∷ rest) k) h')))
     act (Measure k) vs = with_latest vs (λ a rest. after (length_at heap a) (λ v. Goes (now (v ∷ rest) k) heap))
     act (Push k) vs = with_two vs (λ a v rest. after (pushed heap a v) (λ x. grown x.0 x.1 (now (default ∷ rest) k)))
     act (Pop k) vs = with_latest vs (λ a rest. after (popped heap a) (λ x. Goes (now (x.0 ∷ rest) k) x.1))
-    act (Open u room k) vs = Takes (array_words room) (λ at. (now (Object at ∷ vs) k, with_cell at (Items u room []) heap))
+    act (Open u room k) vs =
+        Takes (array_words room) (λ at. (now (Object at ∷ vs) k, with_cell at (Items u room []) heap))
     act (Append k) vs = with_two vs (λ a v rest. after (pushed heap a v) (λ x. grown x.0 x.1 (now (a ∷ rest) k)))
     act (New c k) vs =
-        after (there (entry P.classes c)) (λ class. Takes (object_words class) (λ at. (now (Object at ∷ vs) k, with_cell at (Fields c (defaults class.fields)) heap)))
+        after (there (entry P.classes c)) (λ class. Takes (object_words class)
+        (λ at. (now (Object at ∷ vs) k, with_cell at (Fields c (defaults class.fields)) heap)))
     act (Build c m k) vs =
-        after (there (entry P.classes c)) (λ class. with_latest vs (λ o rest. after (taken m rest) (λ x. invoked heap base depth class.maker (o ∷ x.0) (at x.1 k ∷ callers))))
+        after (there (entry P.classes c)) (λ class. with_latest vs
+        (λ o rest. after (taken m rest) (λ x. invoked heap base depth class.maker (o ∷ x.0) (at x.1 k ∷ callers))))
     act (Invoke g m k) vs = after (taken m vs) (λ x. invoked heap base depth g x.0 (at x.1 k ∷ callers))
     act (Send s m k) vs =
-        after (taken m vs) (λ x. after (then_gives (first x.0) (λ o. method heap o s)) (λ g. invoked heap base depth g x.0 (at x.1 k ∷ callers)))
-    act (Ask service m answers k) vs = after (taken m vs) (λ x. after (requested service x.0) (λ r. asked (asker answers x.1 k) r))
+        after (taken m vs) (λ x.
+        after (then_gives (first x.0) (λ o. method heap o s)) (λ g. invoked heap base depth g x.0 (at x.1 k ∷ callers)))
+    act (Ask service m answers k) vs =
+        after (taken m vs) (λ x. after (requested service x.0) (λ r. asked (asker answers x.1 k) r))
     act (Repeat k) [] = stuck
     act (Repeat k) (Code g ∷ rest) = asked (asker false rest k) (Spawn (repeating g))
     act (Repeat k) (v ∷ rest) = stuck
     act (Again s k) vs = Goes (now vs (runs (is_maker P.classes function) s k k k)) heap
-    act (Each i s k) vs = after (next_item heap (names.locals (suc i)) (names.locals (suc (suc i)))) (λ x. takes_item i s vs k x)
+    act (Each i s k) vs =
+        after (next_item heap (names.locals (suc i)) (names.locals (suc (suc i)))) (λ x. takes_item i s vs k x)
     act (Leave to) vs = Goes (now vs to) heap
     act Give vs = with_latest vs (λ v rest. ended heap base depth function v callers)
     act (Round g) vs = Goes (now vs (round g)) heap

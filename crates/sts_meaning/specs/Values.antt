@@ -98,7 +98,8 @@ either_value None (Some b) = Gives (truth b)
 either_value None None = Stuck
 
 abbrev pub of_numbers : ℕ → Value → Value → Outcome Value
-of_numbers op a b = then_gives (whole a) (λ x. then_gives (whole b) (λ y. either_value (arithmetic op x y) (order op x y)))
+of_numbers op a b =
+    then_gives (whole a) (λ x. then_gives (whole b) (λ y. either_value (arithmetic op x y) (order op x y)))
 
 -- an operator between two operands
 abbrev pub applied : ℕ → Value → Value → Outcome Value
@@ -126,7 +127,9 @@ pub record Bumped : Type 0 where
 
 -- the value is the old number, through ToInt32, where the mark stands after its target
 abbrev pub bumped : ℤ → Bool → Value → Outcome Bumped
-bumped by late a = then_gives (whole a) (λ x. (let y = Whole (to_int32 (x +ℤ by)) in Gives (record { new = y; given = if late then Whole (to_int32 x) else y })))
+bumped by late a =
+    then_gives (whole a) (λ x.
+    (let y = Whole (to_int32 (x +ℤ by)) in Gives (record { new = y; given = if late then Whole (to_int32 x) else y })))
 
 -- what a condition decides
 abbrev pub decided : Value → Outcome Bool

@@ -17,32 +17,38 @@ ghost use Rattle.sts_meaning.specs.Counts.{steps, object, makes, truth, falsehoo
 /// Division by zero, signs, and 32 bits.
 pub fn rows_of_numbers()
     ensures division { written 30 division ≡ codes "0 serial 30\n0 serial 2d31\nend 0 quiet\n" }
-    ensures bits { written 60 numbers_of_32_bits ≡ codes "0 serial 3135\n0 serial 2d35\n0 serial 32\n0 serial 2d32313437343833363438\n0 serial 2d33\nend 0 quiet\n" }
-    ensures names { written 100 steps_of_a_name ≡ codes "0 serial 35\n0 serial 36\n0 serial 35\n0 serial 32\n0 serial 34\nend 0 quiet\n" }
+    ensures bits { written 60 numbers_of_32_bits ≡ codes
+        "0 serial 3135\n0 serial 2d35\n0 serial 32\n0 serial 2d32313437343833363438\n0 serial 2d33\nend 0 quiet\n" }
+    ensures names { written 100 steps_of_a_name
+        ≡ codes "0 serial 35\n0 serial 36\n0 serial 35\n0 serial 32\n0 serial 34\nend 0 quiet\n" }
     ensures unset { written 30 unset ≡ codes "0 serial 30\n0 serial 30\n0 serial 33\nend 0 quiet\n" }
 {}
 
 /// Handlers in order, seats, and activities that repeat.
 pub fn rows_of_activities()
     ensures blinking { written_until 60 blinking 50 ≡ codes "0 display #..../...../...../...../.....\n20 display ...../...../...../...../.....\n40 display #..../...../...../...../.....\nend 50 script\n" }
-    ensures deep_handlers { counted 120 deep_handlers ≡ codes "0 serial 313130\n5 serial 373231\nend 5 quiet\nstats spawned 1 blocked 1 words 25 seats 1\n" }
+    ensures deep_handlers { counted 120 deep_handlers
+        ≡ codes "0 serial 313130\n5 serial 373231\nend 5 quiet\nstats spawned 1 blocked 1 words 25 seats 1\n" }
     ensures two_handlers { written 60 two_handlers ≡ codes "0 serial 32\n5 serial 31\nend 5 quiet\n" }
     ensures click { written_on 40 presses 1000 (pressed 100 300) ≡ codes "300 serial 31\nend 300 quiet\n" }
     ensures long_press { written_on 40 presses 2000 (pressed 100 1100) ≡ codes "end 1100 quiet\n" }
-    ensures seats { counted 1000 (seats 23) ≡ codes "0 serial 37\nend 0 quiet\nstats spawned 24 blocked 0 words 161 seats 24\n" }
+    ensures seats { counted 1000 (seats 23)
+        ≡ codes "0 serial 37\nend 0 quiet\nstats spawned 24 blocked 0 words 161 seats 24\n" }
     ensures no_seat { written 1000 (seats 24) ≡ codes "panic 0 101\n" }
 {}
 
 /// What comes of events while their handler runs.
 pub fn rows_of_busy_listeners()
-    ensures queues { counted 200 (busy 16 3) ≡ codes "5 serial 31\n10 serial 32\n15 serial 33\nend 15 quiet\nstats spawned 1 blocked 1 words 18 seats 1\n" }
+    ensures queues { counted 200 (busy 16 3)
+        ≡ codes "5 serial 31\n10 serial 32\n15 serial 33\nend 15 quiet\nstats spawned 1 blocked 1 words 18 seats 1\n" }
     ensures drops { written 200 (busy 32 3) ≡ codes "5 serial 31\nend 5 quiet\n" }
     ensures begins_each { written 200 (busy 8 3) ≡ codes "5 serial 31\n5 serial 32\n5 serial 33\nend 5 quiet\n" }
 {}
 
 /// Handlers that run before the raiser goes on, at its depth.
 pub fn rows_of_raising_at_once()
-    ensures once { counted 100 (at_once 1) ≡ codes "0 serial 31\n0 serial 39\n5 serial 32\nend 5 quiet\nstats spawned 1 blocked 1 words 6 seats 2\n" }
+    ensures once { counted 100 (at_once 1)
+        ≡ codes "0 serial 31\n0 serial 39\n5 serial 32\nend 5 quiet\nstats spawned 1 blocked 1 words 6 seats 2\n" }
     ensures twice { counted 150 (at_once 2) ≡ codes "0 serial 31\n0 serial 39\n0 serial 39\n5 serial 32\n5 serial 31\n10 serial 32\nend 10 quiet\nstats spawned 1 blocked 1 words 12 seats 2\n" }
     ensures raisers { written 400 (endless_raisers 0) ≡ codes "panic 0 106\n" }
     ensures depth { written 400 (endless_raisers 30) ≡ codes "panic 0 102\n" }
@@ -50,8 +56,10 @@ pub fn rows_of_raising_at_once()
 
 /// Texts, and what is asked of the board.
 pub fn rows_of_texts()
-    ensures texts { written_with 60 (codes "hi" ∷ codes "ho" ∷ []) texts ≡ codes "0 serial 6869\n0 serial 32\npanic 0 105\n" }
-    ensures questions { written 80 questions ≡ codes "0 display .#.../...../...../...../.....\n0 display ...../...../...../...../.....\n7 serial 37\npanic 8 44\n" }
+    ensures texts { written_with 60 (codes "hi" ∷ codes "ho" ∷ []) texts
+        ≡ codes "0 serial 6869\n0 serial 32\npanic 0 105\n" }
+    ensures questions { written 80 questions ≡ codes
+        "0 display .#.../...../...../...../.....\n0 display ...../...../...../...../.....\n7 serial 37\npanic 8 44\n" }
 {}
 
 /// Depth, the arena, indices and null.
@@ -80,9 +88,11 @@ pub fn rows_of_orders()
     ensures growing { written 100 growing_list ≡ codes "0 serial 31\n0 serial 32\n0 serial 33\nend 0 quiet\n" }
     ensures once { written 100 list_evaluated_once ≡ codes "0 serial 35\n0 serial 31\n0 serial 33\nend 0 quiet\n" }
     ensures methods { written 100 methods ≡ codes "0 serial 35\n0 serial 3630\n0 serial 37\npanic 0 105\n" }
-    ensures constructors { written 100 constructors ≡ codes "0 serial 33\n0 serial 31\n0 serial 32\n0 serial 34\n0 serial 35\n0 serial 34\nend 0 quiet\n" }
+    ensures constructors { written 100 constructors
+        ≡ codes "0 serial 33\n0 serial 31\n0 serial 32\n0 serial 34\n0 serial 35\n0 serial 34\nend 0 quiet\n" }
     ensures each_time { written 60 set_each_time ≡ codes "0 serial 30\n0 serial 30\nend 0 quiet\n" }
-    ensures early { written 60 early_stops ≡ codes "0 serial 32\n0 serial 33\n0 serial 36\n0 serial 39\n0 serial 37\nend 0 quiet\n" }
+    ensures early { written 60 early_stops
+        ≡ codes "0 serial 32\n0 serial 33\n0 serial 36\n0 serial 39\n0 serial 37\nend 0 quiet\n" }
 {}
 
 /// How many counted steps expressions take, besides the three of a main program that does nothing.
@@ -108,7 +118,8 @@ pub fn counted_steps_of_expressions()
     ensures method { steps (makes ∷ does (send t.Nothing 0 (object ∷ [])) ∷ []) ≡ 12 }
     ensures field { steps (makes ∷ does (e.Field t.Number object 0) ∷ []) ≡ 10 }
     ensures field_set { steps (makes ∷ does (e.Set t.Number None (e.Field t.Number object 0) (num 1)) ∷ []) ≡ 11 }
-    ensures field_added { steps (makes ∷ does (e.Set t.Number (Some 13) (e.Field t.Number object 0) (num 1)) ∷ []) ≡ 13 }
+    ensures field_added { steps (makes ∷ does (e.Set t.Number (Some 13) (e.Field t.Number object 0) (num 1)) ∷ [])
+        ≡ 13 }
     ensures handler { steps (does (board b.OnEvent (num 1 ∷ num 1 ∷ handler 2 ∷ [])) ∷ []) ≡ 7 }
 {}
 
@@ -119,7 +130,8 @@ pub fn counted_steps_of_statements()
     ensures condition { steps (e.IfOnly truth e.Empty ∷ []) ≡ 5 }
     ensures turns { steps (e.While (less name (num 1)) (bumps name) ∷ []) ≡ 13 }
     ensures repetition { steps (e.DoWhile (bumps name) (less name (num 1)) ∷ []) ≡ 8 }
-    ensures bounded { steps (e.For e.omitted (Some (less name (num 2))) (Some (e.Bump t.Number name (pos 1) true)) e.Empty ∷ []) ≡ 19 }
+    ensures bounded { steps
+        (e.For e.omitted (Some (less name (num 2))) (Some (e.Bump t.Number name (pos 1) true)) e.Empty ∷ []) ≡ 19 }
     ensures items { steps (e.ForOf true (Local 0) (list (num 1 ∷ num 2 ∷ [])) e.Empty ∷ []) ≡ 14 }
     ensures left { steps (e.While truth e.Break ∷ []) ≡ 6 }
     ensures left_of_items { steps (e.ForOf true (Local 0) (list (num 1 ∷ num 2 ∷ [])) e.Continue ∷ []) ≡ 16 }

@@ -18,7 +18,9 @@ use sts_syntax::{Binding, Body, Item, Param, Shape};
 /// Numbers a class, unless its name has a number already.
 fn number_class(classes: &mut ByNumber, count: u32, item: &Item) -> Result<u32, NoMemory>
     requires { count + length (entry.item_class (top_level item.now)) < 2 ^ 32 }
-    ensures names { OnOk result ((y : ℕ) → value_at classes.new.values.items y ≡ or_else (value_at classes.old.values.items y) (position_from (λ z. z == y) count (entry.item_class (top_level item.now)))) }
+    ensures names { OnOk result
+        ((y : ℕ) → value_at classes.new.values.items y ≡ or_else (value_at classes.old.values.items y)
+        (position_from (λ z. z == y) count (entry.item_class (top_level item.now)))) }
     ensures count { IfOk result (λ n. n ≡ count + length (entry.item_class (top_level item.now))) }
 {
     match item {
@@ -42,7 +44,9 @@ fn number_class(classes: &mut ByNumber, count: u32, item: &Item) -> Result<u32, 
 /// Numbers the classes of some parts of a text, behind those that have numbers.
 pub fn number_classes(classes: &mut ByNumber, first: u32, items: &[Item]) -> Result<u32, NoMemory>
     requires { first + length (entry.class_names (top_levels items.now)) < 2 ^ 32 }
-    ensures names { OnOk result ((y : ℕ) → value_at classes.new.values.items y ≡ or_else (value_at classes.old.values.items y) (position_from (λ z. z == y) first (entry.class_names (top_levels items.now)))) }
+    ensures names { OnOk result
+        ((y : ℕ) → value_at classes.new.values.items y ≡ or_else (value_at classes.old.values.items y)
+        (position_from (λ z. z == y) first (entry.class_names (top_levels items.now)))) }
     ensures count { IfOk result (λ n. n ≡ first + length (entry.class_names (top_levels items.now))) }
 {
     let mut count = first;
@@ -97,7 +101,8 @@ pub fn written_kind(classes: &ByNumber, shape: &Option<Shape>) -> Option<StaticT
 
 /// The type of a parameter; one that isn't known counts as nothing.
 fn parameter_kind(classes: &ByNumber, param: &Param) -> StaticType
-    ensures { result ≡ unwrap_or (entry.written_kind (value_at classes.now.values.items) (optional_annotation param.now.shape)) nothing }
+    ensures { result ≡ unwrap_or
+        (entry.written_kind (value_at classes.now.values.items) (optional_annotation param.now.shape)) nothing }
 {
     match written_kind(classes, &param.shape) {
         Some(kind) => kind,
@@ -114,7 +119,8 @@ pub fn parameter_kinds(
     classes: &ByNumber,
     params: &[Param],
 ) -> Result<Seq<StaticType>, NoMemory>
-    ensures { IfOk result (λ kinds. kinds ≡ entry.parameter_kinds (value_at classes.now.values.items) (parameters params.now)) }
+    ensures { IfOk result
+        (λ kinds. kinds ≡ entry.parameter_kinds (value_at classes.now.values.items) (parameters params.now)) }
 {
     let mut kinds = Seq::new(alloc);
     for i in 0..params.len() {
@@ -141,7 +147,8 @@ pub fn add_declared(
     sort: DeclarationKind,
     b: &Binding,
 ) -> Result<(), NoMemory>
-    ensures { OnOk result (Adds known.old known.new (entry.declared_entry owner sort (declaration b.now) ∷ []) (entry.declared_kind (value_at classes.now.values.items) (declaration b.now) ∷ []) []) }
+    ensures { OnOk result (Adds known.old known.new (entry.declared_entry owner sort (declaration b.now) ∷ [])
+        (entry.declared_kind (value_at classes.now.values.items) (declaration b.now) ∷ []) []) }
 {
     let kind = written_kind(classes, &b.shape);
     let entry = Entry {
@@ -165,7 +172,9 @@ pub fn add_routine(
     sort: DeclarationKind,
     body: &Body,
 ) -> Result<(), NoMemory>
-    ensures { OnOk result (Adds known.old known.new (entry.routine_entry (value_at classes.now.values.items) owner name sort (routine body.now) ∷ []) (entry.routine_gives (value_at classes.now.values.items) (routine body.now) ∷ []) []) }
+    ensures { OnOk result (Adds known.old known.new
+        (entry.routine_entry (value_at classes.now.values.items) owner name sort (routine body.now) ∷ [])
+        (entry.routine_gives (value_at classes.now.values.items) (routine body.now) ∷ []) []) }
 {
     let takes = parameter_kinds(alloc, classes, body.params.as_slice())?;
     let kind = written_kind(classes, &body.gives);

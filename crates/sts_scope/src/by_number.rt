@@ -34,7 +34,8 @@ impl ByNumber {
 
     /// Gives a number a value.
     pub fn set(&mut self, x: u32, value: u32) -> Result<(), NoMemory>
-        ensures { OnOk result ((y : ℕ) → value_at self.new.values.items y ≡ (if y == x then Some value else value_at self.old.values.items y)) }
+        ensures { OnOk result ((y : ℕ)
+            → value_at self.new.values.items y ≡ (if y == x then Some value else value_at self.old.values.items y)) }
     {
         let at = x as usize;
         for _ in self.values.len()..at + 1 {

@@ -24,7 +24,8 @@ fn add_globals(
     fixed: bool,
     each: &[Binding],
 ) -> Result<(), NoMemory>
-    ensures { OnOk result (Adds known.old known.new (entry.global_entries fixed (declarations each.now)) (entry.global_kinds (value_at classes.now.values.items) (declarations each.now)) []) }
+    ensures { OnOk result (Adds known.old known.new (entry.global_entries fixed (declarations each.now))
+        (entry.global_kinds (value_at classes.now.values.items) (declarations each.now)) []) }
 {
     for i in 0..each.len() {
         add_declared(
@@ -41,7 +42,8 @@ fn add_globals(
 
 /// Adds what a statement of the main program declares.
 fn add_main(alloc: Global, classes: &ByNumber, known: &mut Known, s: &Stmt) -> Result<(), NoMemory>
-    ensures { OnOk result (Adds known.old known.new (entry.main_entries (statement s.now)) (entry.main_kinds (value_at classes.now.values.items) (statement s.now)) []) }
+    ensures { OnOk result (Adds known.old known.new (entry.main_entries (statement s.now))
+        (entry.main_kinds (value_at classes.now.values.items) (statement s.now)) []) }
 {
     match &s.form {
         Form::Let { fixed, each } => add_globals(alloc, classes, known, *fixed, each.as_slice()),
@@ -72,7 +74,9 @@ fn add_member(
     class: u32,
     member: &Member,
 ) -> Result<(), NoMemory>
-    ensures { OnOk result (Adds known.old known.new (entry.member_entry (value_at classes.now.values.items) class (class_member member.now)) (entry.member_kind (value_at classes.now.values.items) (class_member member.now)) []) }
+    ensures { OnOk result (Adds known.old known.new
+        (entry.member_entry (value_at classes.now.values.items) class (class_member member.now))
+        (entry.member_kind (value_at classes.now.values.items) (class_member member.now)) []) }
 {
     let owner = Owner::Class(class);
     match member {
@@ -100,7 +104,9 @@ fn add_members(
     class: u32,
     members: &[Member],
 ) -> Result<(), NoMemory>
-    ensures { OnOk result (Adds known.old known.new (entry.member_entries (value_at classes.now.values.items) class (class_members members.now)) (entry.member_kinds (value_at classes.now.values.items) (class_members members.now)) []) }
+    ensures { OnOk result (Adds known.old known.new
+        (entry.member_entries (value_at classes.now.values.items) class (class_members members.now))
+        (entry.member_kinds (value_at classes.now.values.items) (class_members members.now)) []) }
 {
     for i in 0..members.len() {
         add_member(alloc, classes, known, class, &members[i])?;
@@ -115,7 +121,8 @@ fn written_takes(
     classes: &ByNumber,
     body: &Body,
 ) -> Result<Seq<StaticType>, NoMemory>
-    ensures { IfOk result (λ takes. takes ≡ entry.routine_takes (value_at classes.now.values.items) (routine body.now)) }
+    ensures { IfOk result
+        (λ takes. takes ≡ entry.routine_takes (value_at classes.now.values.items) (routine body.now)) }
 {
     parameter_kinds(alloc, classes, body.params.as_slice())
 }
@@ -126,7 +133,8 @@ fn maker_takes(
     classes: &ByNumber,
     members: &[Member],
 ) -> Result<Option<Seq<StaticType>>, NoMemory>
-    ensures { IfOk result (λ takes. takes ≡ entry.maker_takes (value_at classes.now.values.items) (class_members members.now)) }
+    ensures { IfOk result
+        (λ takes. takes ≡ entry.maker_takes (value_at classes.now.values.items) (class_members members.now)) }
 {
     for i in 0..members.len() {
         match &members[i] {
@@ -167,7 +175,9 @@ fn add_item(
     item: &Item,
 ) -> Result<(), NoMemory>
     requires { length known.old.classes + length (entry.item_class (top_level item.now)) < 2 ^ 32 }
-    ensures { OnOk result (Adds known.old known.new (entry.item_entries (value_at classes.now.values.items) (length known.old.classes) (top_level item.now)) (entry.item_kinds (value_at classes.now.values.items) (top_level item.now)) (entry.item_heads (value_at classes.now.values.items) (top_level item.now))) }
+    ensures { OnOk result (Adds known.old known.new (entry.item_entries (value_at classes.now.values.items)
+        (length known.old.classes) (top_level item.now)) (entry.item_kinds (value_at classes.now.values.items)
+        (top_level item.now)) (entry.item_heads (value_at classes.now.values.items) (top_level item.now))) }
 {
     match item {
         Item::Class {
@@ -218,7 +228,9 @@ fn add_items(
     items: &[Item],
 ) -> Result<(), NoMemory>
     requires { length known.old.classes + length (entry.class_names (top_levels items.now)) < 2 ^ 32 }
-    ensures { OnOk result (Adds known.old known.new (entry.entries_from (value_at classes.now.values.items) (length known.old.classes) (top_levels items.now)) (entry.written_kinds (value_at classes.now.values.items) (top_levels items.now)) (entry.heads_of (value_at classes.now.values.items) (top_levels items.now))) }
+    ensures { OnOk result (Adds known.old known.new (entry.entries_from (value_at classes.now.values.items)
+        (length known.old.classes) (top_levels items.now)) (entry.written_kinds (value_at classes.now.values.items)
+        (top_levels items.now)) (entry.heads_of (value_at classes.now.values.items) (top_levels items.now))) }
 {
     for i in 0..items.len() {
         add_item(alloc, classes, known, &items[i])?;

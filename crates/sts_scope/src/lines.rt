@@ -190,7 +190,8 @@ fn see(
     classes: &[ClassHead],
     c: u32,
 ) -> Result<(), NoMemory>
-    ensures { OnOk result ((these : List ℕ) × (order.new.items ≡ order.old.items ++ these) × lines.GoesUp classes.now seen.old seen.new (Some c) these) }
+    ensures { OnOk result ((these : List ℕ) × (order.new.items ≡ order.old.items ++ these)
+        × lines.GoesUp classes.now seen.old seen.new (Some c) these) }
 {
     let mut next = Some(c);
     while let Some(c) = next {

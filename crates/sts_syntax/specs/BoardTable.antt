@@ -85,9 +85,10 @@ row_of TextGlyph = row [] (codes "$textGlyph") (text ∷ number ∷ []) t.Number
 -- all calls
 abbrev pub board_calls : List BoardCall
 board_calls =
-    Pause ∷ Forever ∷ ShowLeds ∷ ShowNumber ∷ ShowString ∷ ClearScreen ∷ Unplot ∷ Plot ∷ Toggle ∷ OnButtonPressed ∷ ButtonIsPressed ∷ RunningTime
-    ∷ InBackground ∷ OnEvent ∷ OnEventFlags ∷ RaiseEvent ∷ RaiseNow ∷ WaitForEvent ∷ EventValue ∷ Panic ∷ WriteNumber ∷ WriteString ∷ WriteLine
-    ∷ DigitalWritePin ∷ SendNumber ∷ Abs ∷ Min ∷ Max ∷ Show ∷ NumberGlyph ∷ TextGlyph ∷ []
+    Pause ∷ Forever ∷ ShowLeds ∷ ShowNumber ∷ ShowString ∷ ClearScreen ∷ Unplot ∷ Plot ∷ Toggle ∷ OnButtonPressed
+    ∷ ButtonIsPressed ∷ RunningTime ∷ InBackground ∷ OnEvent ∷ OnEventFlags ∷ RaiseEvent ∷ RaiseNow ∷ WaitForEvent
+    ∷ EventValue ∷ Panic ∷ WriteNumber ∷ WriteString ∷ WriteLine ∷ DigitalWritePin ∷ SendNumber ∷ Abs ∷ Min ∷ Max
+    ∷ Show ∷ NumberGlyph ∷ TextGlyph ∷ []
 
 -- how many functions the library has; they are the first ones of each program
 abbrev pub library_size : ℕ
@@ -105,8 +106,10 @@ constant space name value = record { space = space; name = name; value = value }
 abbrev pub board_constants : List BoardConstant
 board_constants =
     constant (codes "Button") (codes "A") (pos 1) ∷ constant (codes "Button") (codes "B") (pos 2)
-    ∷ constant (codes "DigitalPin") (codes "P0") (pos 0) ∷ constant (codes "DigitalPin") (codes "P1") (pos 1) ∷ constant (codes "DigitalPin") (codes "P2") (pos 2)
-    ∷ constant (codes "EventFlags") (codes "Reentrant") (pos 8) ∷ constant (codes "EventFlags") (codes "QueueIfBusy") (pos 16)
+    ∷ constant (codes "DigitalPin") (codes "P0") (pos 0) ∷ constant (codes "DigitalPin") (codes "P1") (pos 1)
+    ∷ constant (codes "DigitalPin") (codes "P2") (pos 2)
+    ∷ constant (codes "EventFlags") (codes "Reentrant") (pos 8)
+    ∷ constant (codes "EventFlags") (codes "QueueIfBusy") (pos 16)
     ∷ constant (codes "EventFlags") (codes "DropIfBusy") (pos 32) ∷ []
 
 -- whether two texts have the same bytes

@@ -30,7 +30,9 @@ routine params locals gives all = record { params = params; locals = locals; giv
 
 -- { $show(f); basic.pause(400) }
 abbrev pub show_leds : TypedRoutine
-show_leds = routine (t.Number ∷ []) [] t.Nothing (also (asks Show (Name t.Number (Param 0))) (also (asks Pause (number 400)) done))
+show_leds =
+    routine (t.Number ∷ []) [] t.Nothing
+    (also (asks Show (Name t.Number (Param 0))) (also (asks Pause (number 400)) done))
 
 -- { let i = 0 let g = GLYPH(shown, 0) while (g >= 0) { $show(g); basic.pause(400); i += 1; g = GLYPH(shown, i) } }
 abbrev pub show_glyphs : BoardCall → ValueType → TypedRoutine
@@ -42,16 +44,19 @@ show_glyphs glyph type =
     also (asks Show g) (also (asks Pause (number 400)) (also (Plain (Set t.Number (Some 13) i (number 1)))
     (also (Plain (Set t.Number None g (glyph_at i))) done))) in
     routine (type ∷ []) (t.Number ∷ t.Number ∷ []) t.Nothing
-    (also (one_local 0 (number 0)) (also (one_local 1 (glyph_at (number 0))) (also (While (Binary t.Boolean 9 g (number 0)) (Block turn)) done)))
+    (also (one_local 0 (number 0))
+    (also (one_local 1 (glyph_at (number 0))) (also (While (Binary t.Boolean 9 g (number 0)) (Block turn)) done)))
 
 -- { serial.writeString(s); serial.writeString("\r\n") }, where the text of a line end has this number
 abbrev pub write_line : ℕ → TypedRoutine
 write_line line =
-    routine (t.Text ∷ []) [] t.Nothing (also (asks WriteString (Name t.Text (Param 0))) (also (asks WriteString (Text t.Text line)) done))
+    routine (t.Text ∷ []) [] t.Nothing
+    (also (asks WriteString (Name t.Text (Param 0))) (also (asks WriteString (Text t.Text line)) done))
 
 -- { return test ? yes : no }
 abbrev pub chooses : List ValueType → TypedTree → TypedTree → TypedTree → TypedRoutine
-chooses params test first second = routine params [] t.Number (also (Return (Some (Choice t.Number test first second))) done)
+chooses params test first second =
+    routine params [] t.Number (also (Return (Some (Choice t.Number test first second))) done)
 
 -- { return n < 0 ? 0 - n : n }
 abbrev pub absolute : TypedRoutine
@@ -69,4 +74,5 @@ one_of_two op =
 -- $showLeds, $showNumber, $showString, $writeLine, $abs, $min and $max
 abbrev pub library_routines : (line : ℕ) → List TypedRoutine
 library_routines line =
-    show_leds ∷ show_glyphs NumberGlyph t.Number ∷ show_glyphs TextGlyph t.Text ∷ write_line line ∷ absolute ∷ one_of_two 6 ∷ one_of_two 7 ∷ []
+    show_leds ∷ show_glyphs NumberGlyph t.Number ∷ show_glyphs TextGlyph t.Text ∷ write_line line ∷ absolute
+    ∷ one_of_two 6 ∷ one_of_two 7 ∷ []

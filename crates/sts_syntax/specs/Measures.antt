@@ -152,7 +152,8 @@ module _ (size : TypedTree → ℕ) where
     greatest_in (IfElse test a b) = max (size test) (max (greatest_in a) (greatest_in b))
     greatest_in (While test a) = max (size test) (greatest_in a)
     greatest_in (DoWhile a test) = max (greatest_in a) (size test)
-    greatest_in (For first test step a) = max (greatest_optional first) (max (optional_size test) (max (optional_size step) (greatest_in a)))
+    greatest_in (For first test step a) =
+        max (greatest_optional first) (max (optional_size test) (max (optional_size step) (greatest_in a)))
     greatest_in (ForOf fixed name list a) = max (size list) (greatest_in a)
     greatest_in (Return value) = optional_size value
     greatest_in Break = 0

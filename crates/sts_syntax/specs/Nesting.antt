@@ -47,7 +47,8 @@ abbrev mutual
   statement_nesting (While at c a) = 1 + max (nesting c) (statement_nesting a)
   statement_nesting (DoWhile at a c) = 1 + max (statement_nesting a) (nesting c)
   statement_nesting (For at first c step a) =
-      1 + max (max (optional_statement_nesting first) (optional_nesting c)) (max (optional_nesting step) (statement_nesting a))
+      1 + max (max (optional_statement_nesting first) (optional_nesting c))
+      (max (optional_nesting step) (statement_nesting a))
   statement_nesting (ForOf at fixed name list a) = 1 + max (nesting list) (statement_nesting a)
   statement_nesting (Return at value) = 1 + optional_nesting value
   statement_nesting (Break at) = 1

@@ -51,7 +51,8 @@ abbrev mutual
   expressions (IfElse test a b) = nodes test ++ expressions a ++ expressions b
   expressions (While test a) = nodes test ++ expressions a
   expressions (DoWhile a test) = expressions a ++ nodes test
-  expressions (For first test step a) = first_expressions first ++ optional_nodes test ++ optional_nodes step ++ expressions a
+  expressions (For first test step a) =
+      first_expressions first ++ optional_nodes test ++ optional_nodes step ++ expressions a
   expressions (ForOf fixed name list a) = nodes list ++ expressions a
   expressions (Return value) = optional_nodes value
   expressions Break = []
@@ -113,4 +114,5 @@ repeats_in (a ∷ rest) = repeats_in rest
 -- the weight of the text's own part of a program: its functions, those of `forever`, and its classes
 abbrev pub text_weight : TypedProgram → ℕ
 text_weight p =
-    routines_weight (drop library_size p.functions) + repeating_weight * repeats_in (all_expressions p.functions) + 2 * length p.classes
+    routines_weight (drop library_size p.functions) + repeating_weight * repeats_in (all_expressions p.functions)
+    + 2 * length p.classes

@@ -33,7 +33,8 @@ is_int32 (negsuc n) = nat_lt n (2 ^ 31)
 -- operators: those that take numbers and give one, those that put numbers in order, and those of equality
 abbrev pub arithmetic_operators : List ℕ
 arithmetic_operators =
-    BIT_OR ∷ BIT_XOR ∷ BIT_AND ∷ SHIFT_LEFT ∷ SHIFT_RIGHT ∷ SHIFT_RIGHT_UNSIGNED ∷ ADD ∷ SUBTRACT ∷ MULTIPLY ∷ DIVIDE ∷ REMAINDER ∷ []
+    BIT_OR ∷ BIT_XOR ∷ BIT_AND ∷ SHIFT_LEFT ∷ SHIFT_RIGHT ∷ SHIFT_RIGHT_UNSIGNED ∷ ADD ∷ SUBTRACT ∷ MULTIPLY ∷ DIVIDE
+    ∷ REMAINDER ∷ []
 
 abbrev pub order_operators : List ℕ
 order_operators = LESS ∷ GREATER ∷ AT_MOST ∷ AT_LEAST ∷ []
@@ -51,7 +52,8 @@ IsOne by = (by ≡ pos 1) ⊎ (by ≡ negsuc 0)
 
 -- what a prefix operator takes and gives
 abbrev pub Prefixes : ℕ → ValueType → ValueType → Type 0
-Prefixes op u w = (IsOneOf op number_prefixes × (u ≡ Number) × (w ≡ Number)) ⊎ ((op ≡ NOT) × (u ≡ Boolean) × (w ≡ Boolean))
+Prefixes op u w =
+    (IsOneOf op number_prefixes × (u ≡ Number) × (w ≡ Number)) ⊎ ((op ≡ NOT) × (u ≡ Boolean) × (w ≡ Boolean))
 
 module _ (P : TypedProgram) where
   abbrev pub HasClass : ℕ → ClassEntry → Type 0
@@ -89,7 +91,8 @@ module _ (P : TypedProgram) where
   abbrev pub Works : ℕ → ValueType → ValueType → ValueType → Type 0
   Works op u v w =
       (IsOneOf op arithmetic_operators × (u ≡ Number) × (v ≡ Number) × (w ≡ Number))
-      ⊎ ((IsOneOf op order_operators × (u ≡ Number) × (v ≡ Number) × (w ≡ Boolean)) ⊎ (IsOneOf op equality_operators × AreCompared u v × (w ≡ Boolean)))
+      ⊎ ((IsOneOf op order_operators × (u ≡ Number) × (v ≡ Number) × (w ≡ Boolean))
+      ⊎ (IsOneOf op equality_operators × AreCompared u v × (w ≡ Boolean)))
 
   -- a field of a class, by its number
   abbrev pub HasField : ℕ → ℕ → ValueType → Type 0
@@ -97,11 +100,13 @@ module _ (P : TypedProgram) where
 
   -- the function of a method or constructor: what it takes behind `this`, which is of a class at or above c, and what it gives
   abbrev pub IsMember : ℕ → ℕ → List ValueType → ValueType → Type 0
-  IsMember c f params gives = (r : TypedRoutine) × (o : ℕ) × HasRoutine f r × (r.params ≡ Object o ∷ params) × IsBelow c o × (r.gives ≡ gives)
+  IsMember c f params gives =
+      (r : TypedRoutine) × (o : ℕ) × HasRoutine f r × (r.params ≡ Object o ∷ params) × IsBelow c o × (r.gives ≡ gives)
 
   -- the method in a slot of a class
   abbrev pub HasMethod : ℕ → ℕ → List ValueType → ValueType → Type 0
-  HasMethod c s params gives = (class : ClassEntry) × (f : ℕ) × HasClass c class × (entry class.slots s ≡ Some f) × IsMember c f params gives
+  HasMethod c s params gives =
+      (class : ClassEntry) × (f : ℕ) × HasClass c class × (entry class.slots s ≡ Some f) × IsMember c f params gives
 
   -- a function with which an activity may begin: it takes nothing and gives nothing
   abbrev pub MayBegin : ℕ → Type 0

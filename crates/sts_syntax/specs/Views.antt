@@ -64,7 +64,8 @@ abbrev mutual
   form_statement at (f.If' i c p j a other) = if_statement at (node_tree i c) (form_statement j a) other
   form_statement at (f.While' i c p j a) = While at (node_tree i c) (form_statement j a)
   form_statement at (f.DoWhile' p j a i c) = DoWhile at (form_statement j a) (node_tree i c)
-  form_statement at (f.For' first c step p j a) = For at (optional_statement first) (optional_tree c) (optional_tree step) (form_statement j a)
+  form_statement at (f.For' first c step p j a) =
+      For at (optional_statement first) (optional_tree c) (optional_tree step) (form_statement j a)
   form_statement at (f.ForOf' fixed name i list p j a) = ForOf at fixed name (node_tree i list) (form_statement j a)
   form_statement at (f.Return' value) = Return at (optional_tree value)
   form_statement at f.Break = Break at
@@ -92,7 +93,8 @@ abbrev mutual
   declaration (Binding' at name shape first) = Declare at name (optional_annotation shape) (optional_tree first)
 
   pub routine : Body → Routine
-  routine (Body' at params gives m all arrow) = Does at (parameters params) (optional_annotation gives) (row_statements all) arrow
+  routine (Body' at params gives m all arrow) =
+      Does at (parameters params) (optional_annotation gives) (row_statements all) arrow
 
 -- an expression
 abbrev pub tree : Expr → Tree

@@ -64,7 +64,8 @@ abbrev mutual
   statement_weight (IfElse test a b) = 1 + weight_of test + statement_weight a + statement_weight b
   statement_weight (While test a) = 1 + weight_of test + statement_weight a
   statement_weight (DoWhile a test) = 1 + statement_weight a + weight_of test
-  statement_weight (For first test step a) = 1 + first_weight first + optional_weight test + optional_weight step + statement_weight a
+  statement_weight (For first test step a) =
+      1 + first_weight first + optional_weight test + optional_weight step + statement_weight a
   statement_weight (ForOf fixed name list a) = 4 + weight_of list + statement_weight a
   statement_weight (Return value) = 1 + optional_weight value
   statement_weight Break = 1

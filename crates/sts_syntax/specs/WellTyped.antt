@@ -98,7 +98,8 @@ module _ (P : TypedProgram) where
     -- `super.m`: f is a method of the base of the class of `this`
     abbrev pub IsOfBase : ℕ → List ValueType → ValueType → Type 0
     IsOfBase f params gives = (c : ℕ) × (class : ClassEntry) × (base : ℕ) × (s : ℕ) × (above : ClassEntry)
-        × HasThis (t.Object c) × HasClass P c class × (class.base ≡ Some base) × HasClass P base above × (entry above.slots s ≡ Some f) × IsMember P base f params gives
+        × HasThis (t.Object c) × HasClass P c class × (class.base ≡ Some base) × HasClass P base above
+        × (entry above.slots s ≡ Some f) × IsMember P base f params gives
 
     module _ (known : List ℕ) where
       abbrev mutual
@@ -111,23 +112,30 @@ module _ (P : TypedProgram) where
         IsTyped (e.Name u x) = Has known x u
         IsTyped (e.Unary u op a) = IsTyped a × Prefixes op (type_of a) u
         IsTyped (e.Binary u op a b) = IsTyped a × IsTyped b × Works P op (type_of a) (type_of b) u
-        IsTyped (e.Both u a b) = IsTyped a × IsTyped b × (type_of a ≡ t.Boolean) × (type_of b ≡ t.Boolean) × (u ≡ t.Boolean)
-        IsTyped (e.Either u a b) = IsTyped a × IsTyped b × (type_of a ≡ t.Boolean) × (type_of b ≡ t.Boolean) × (u ≡ t.Boolean)
-        IsTyped (e.Choice u test a b) = IsTyped test × IsTyped a × IsTyped b × (type_of test ≡ t.Boolean) × Join P (type_of a) (type_of b) u
+        IsTyped (e.Both u a b) =
+            IsTyped a × IsTyped b × (type_of a ≡ t.Boolean) × (type_of b ≡ t.Boolean) × (u ≡ t.Boolean)
+        IsTyped (e.Either u a b) =
+            IsTyped a × IsTyped b × (type_of a ≡ t.Boolean) × (type_of b ≡ t.Boolean) × (u ≡ t.Boolean)
+        IsTyped (e.Choice u test a b) =
+            IsTyped test × IsTyped a × IsTyped b × (type_of test ≡ t.Boolean) × Join P (type_of a) (type_of b) u
         IsTyped (e.Set u None x r) = IsTarget x × IsTyped r × (u ≡ type_of x) × GoesTo P (type_of r) u
         IsTyped (e.Set u (Some op) x r) = IsTarget x × IsTyped r × (u ≡ type_of x) × Works P op u (type_of r) u
         IsTyped (e.Bump u x by late) = IsTarget x × (type_of x ≡ t.Number) × (u ≡ t.Number) × IsOne by
         IsTyped (e.Field u a f) = IsTyped a × (c : ℕ) × (type_of a ≡ t.Object c) × HasField P c f u
         IsTyped (e.Length u a) = IsTyped a × (v : ValueType) × (type_of a ≡ t.ListOf v) × (u ≡ t.Number)
         IsTyped (e.Item u a i) = IsTyped a × IsTyped i × (type_of a ≡ t.ListOf u) × (type_of i ≡ t.Number)
-        IsTyped (e.Call u (c.Function f) args) = (r : TypedRoutine) × HasRoutine P f r × AreGiven (parameters_of r.params) args × (u ≡ r.gives)
+        IsTyped (e.Call u (c.Function f) args) =
+            (r : TypedRoutine) × HasRoutine P f r × AreGiven (parameters_of r.params) args × (u ≡ r.gives)
         IsTyped (e.Call u (c.Slot s) args) = IsSent s u args
         IsTyped (e.Call u c.Push args) = IsPushed u args
         IsTyped (e.Call u c.Pop args) = IsPopped u args
-        IsTyped (e.Call u (c.Board call) args) = AreGiven (row_of call).takes args × (u ≡ (row_of call).gives) × IsAsked (row_of call).action
-        IsTyped (e.SuperCall u f args) = (params : List ValueType) × IsOfBase f params u × AreGiven (parameters_of params) args
+        IsTyped (e.Call u (c.Board call) args) =
+            AreGiven (row_of call).takes args × (u ≡ (row_of call).gives) × IsAsked (row_of call).action
+        IsTyped (e.SuperCall u f args) =
+            (params : List ValueType) × IsOfBase f params u × AreGiven (parameters_of params) args
         IsTyped (e.Make u k args) = (class : ClassEntry) × (params : List ValueType)
-            × HasClass P k class × IsMember P k class.maker params (t.Object k) × AreGiven (parameters_of params) args × (u ≡ t.Object k)
+            × HasClass P k class × IsMember P k class.maker params (t.Object k) × AreGiven (parameters_of params) args
+            × (u ≡ t.Object k)
         IsTyped (e.Items u items) = (v : ValueType) × (u ≡ t.ListOf v) × AreItems v items
         IsTyped (e.Handler u f) = ⊥
 
@@ -148,10 +156,14 @@ module _ (P : TypedProgram) where
         -- a method call: the receiver, and then what the method takes
         pub IsSent : ℕ → ValueType → TypedTrees → Type 0
         IsSent s u e.none = ⊥
-        IsSent s u (e.more a rest) = (c : ℕ) × (params : List ValueType) × IsTyped a × (type_of a ≡ t.Object c) × HasMethod P c s params u × AreGiven (parameters_of params) rest
+        IsSent s u (e.more a rest) =
+            (c : ℕ) × (params : List ValueType) × IsTyped a × (type_of a ≡ t.Object c) × HasMethod P c s params u
+            × AreGiven (parameters_of params) rest
 
         pub IsPushed : ValueType → TypedTrees → Type 0
-        IsPushed u (e.more a (e.more b e.none)) = IsTyped a × IsTyped b × (v : ValueType) × (type_of a ≡ t.ListOf v) × GoesTo P (type_of b) v × (u ≡ t.Nothing)
+        IsPushed u (e.more a (e.more b e.none)) =
+            IsTyped a × IsTyped b × (v : ValueType) × (type_of a ≡ t.ListOf v) × GoesTo P (type_of b) v
+            × (u ≡ t.Nothing)
         IsPushed u args = ⊥
 
         pub IsPopped : ValueType → TypedTrees → Type 0
@@ -193,7 +205,8 @@ module _ (P : TypedProgram) where
     -- names are known behind their declaration
     abbrev pub AreDeclared : List ℕ → List TypedDeclaration → Type 0
     AreDeclared known [] = Unit {0}
-    AreDeclared known (d ∷ rest) = (u : ValueType) × MayDeclare d.name u × IsInitial known d.first u × AreDeclared (known_with d.name known) rest
+    AreDeclared known (d ∷ rest) =
+        (u : ValueType) × MayDeclare d.name u × IsInitial known d.first u × AreDeclared (known_with d.name known) rest
 
     -- Where `looped` holds, a loop stands around the statement. A declaration is known in the rest of its block.
     abbrev mutual
@@ -205,9 +218,12 @@ module _ (P : TypedProgram) where
       IsSound (e.While test a) looped known = IsTest known test × IsSound a true known
       IsSound (e.DoWhile a test) looped known = IsSound a true known × IsTest known test
       IsSound (e.For first test step a) looped known =
-          (let inside = known_after_first first known in IsSoundFirst first known × MayTest inside test × MayStep inside step × IsSound a true inside)
-      IsSound (e.ForOf fixed (Local i) list a) looped known = (u : ValueType) × IsTyped known list × (type_of list ≡ t.ListOf u)
-          × (entry S.routine.locals i ≡ Some u) × (entry S.routine.locals (suc i) ≡ Some (t.ListOf u)) × (entry S.routine.locals (suc (suc i)) ≡ Some t.Number)
+          (let inside = known_after_first first known in
+          IsSoundFirst first known × MayTest inside test × MayStep inside step × IsSound a true inside)
+      IsSound (e.ForOf fixed (Local i) list a) looped known =
+          (u : ValueType) × IsTyped known list × (type_of list ≡ t.ListOf u)
+          × (entry S.routine.locals i ≡ Some u) × (entry S.routine.locals (suc i) ≡ Some (t.ListOf u))
+          × (entry S.routine.locals (suc (suc i)) ≡ Some t.Number)
           × IsSound a true (i ∷ known)
       IsSound (e.ForOf fixed x list a) looped known = ⊥
       IsSound (e.Return value) looped known = IsReturned known value (answer S)

@@ -73,8 +73,10 @@ module _ (P : TypedProgram) where
   -- The statements of a constructor begin with `super(..)` where its class has a base: the base's constructor is called.
   abbrev pub IsBodyOf : Option ℕ → Setting → TypedStatements → Type 0
   IsBodyOf None S all = AreSound P S all false []
-  IsBodyOf (Some base) S (e.also (e.Plain (e.SuperCall u f args)) rest) = (above : ClassEntry) × (params : List ValueType)
-      × HasClass P base above × (f ≡ above.maker) × IsMember P base f params (t.Object base) × AreGiven P S [] (parameters_of params) args × (u ≡ t.Object base)
+  IsBodyOf (Some base) S (e.also (e.Plain (e.SuperCall u f args)) rest) =
+      (above : ClassEntry) × (params : List ValueType)
+      × HasClass P base above × (f ≡ above.maker) × IsMember P base f params (t.Object base)
+      × AreGiven P S [] (parameters_of params) args × (u ≡ t.Object base)
       × AreSound P S rest false []
   IsBodyOf (Some base) S all = ⊥
 
@@ -93,9 +95,12 @@ module _ (P : TypedProgram) where
     pub base : (b : ℕ) → class.base ≡ Some b → (above : ClassEntry) × HasClass P b above
     pub chain : (n : ℕ) → Climbs P (suc n) c c → ⊥
     pub fields : (b f : ℕ) (u : ValueType) → class.base ≡ Some b → HasField P b f u → HasField P c f u
-    pub methods : (b s : ℕ) (params : List ValueType) (u : ValueType) → class.base ≡ Some b → HasMethod P b s params u → HasMethod P c s params u
-    pub slots : (s f : ℕ) → entry class.slots s ≡ Some f → (params : List ValueType) × (u : ValueType) × IsMember P c f params u
-    pub maker : (params : List ValueType) × (r : TypedRoutine) × HasRoutine P class.maker r × (r.params ≡ t.Object c ∷ params) × (r.gives ≡ t.Object c)
+    pub methods : (b s : ℕ) (params : List ValueType) (u : ValueType) → class.base ≡ Some b → HasMethod P b s params u
+        → HasMethod P c s params u
+    pub slots : (s f : ℕ) → entry class.slots s ≡ Some f
+        → (params : List ValueType) × (u : ValueType) × IsMember P c f params u
+    pub maker : (params : List ValueType) × (r : TypedRoutine) × HasRoutine P class.maker r
+        × (r.params ≡ t.Object c ∷ params) × (r.gives ≡ t.Object c)
 
   -- a well-typed program
   pub record IsWellTyped : Type 0 where

@@ -416,7 +416,8 @@ impl BoardConstant {
 /// Whether a constant has this space and this name.
 #[tactic(auto, using(crate::proofs::BoardLookup::same_bytes_is))]
 fn is_constant(constant: BoardConstant, space: &[u8], name: &[u8]) -> bool
-    ensures { result ≡ (same_bytes (constant_of constant).space space.now && same_bytes (constant_of constant).name name.now) }
+    ensures { result
+        ≡ (same_bytes (constant_of constant).space space.now && same_bytes (constant_of constant).name name.now) }
 {
     constant.space() == space && constant.name() == name
 }

@@ -7,5 +7,6 @@ ghost use Rattle.sts_syntax.specs.BoardTable.{row_of, call_named, constant_named
 /// Each call is found in the table by its space and name, and so is the value of each constant: no two have the same.
 pub fn board_calls_are_named()
     ensures calls { (call : BoardCall) → call_named (row_of call).space (row_of call).name ≡ Some call }
-    ensures constants { map (λ (c : BoardConstant). constant_named c.space c.name) board_constants ≡ map (λ (c : BoardConstant). Some c.value) board_constants }
+    ensures constants { map (λ (c : BoardConstant). constant_named c.space c.name) board_constants
+        ≡ map (λ (c : BoardConstant). Some c.value) board_constants }
 {}

@@ -320,7 +320,8 @@ fn for_first(
     step: Option<Expr>,
     a: Stmt,
 ) -> Result<Stmt, NoMemory>
-    ensures { IfOk result (λ s. statement s ≡ t.For at (t.written (statement first)) (optional_expression test) (optional_expression step) (statement a)) }
+    ensures { IfOk result (λ s. statement s
+        ≡ t.For at (t.written (statement first)) (optional_expression test) (optional_expression step) (statement a)) }
 {
     let (first, a, (test, step)) = boxed_both_beside(alloc, first, a, (test, step))?;
     Ok(Stmt {
@@ -337,7 +338,8 @@ fn for_rest(
     step: Option<Expr>,
     a: Stmt,
 ) -> Result<Stmt, NoMemory>
-    ensures { IfOk result (λ s. statement s ≡ t.For at t.omitted (optional_expression test) (optional_expression step) (statement a)) }
+    ensures { IfOk result
+        (λ s. statement s ≡ t.For at t.omitted (optional_expression test) (optional_expression step) (statement a)) }
 {
     let (a, (test, step)) = boxed_beside(alloc, a, (test, step))?;
     Ok(Stmt {
@@ -355,7 +357,8 @@ pub fn for_loop(
     step: Option<Expr>,
     a: Stmt,
 ) -> Result<Stmt, NoMemory>
-    ensures { IfOk result (λ s. statement s ≡ t.For at (optional_written first) (optional_expression test) (optional_expression step) (statement a)) }
+    ensures { IfOk result (λ s. statement s
+        ≡ t.For at (optional_written first) (optional_expression test) (optional_expression step) (statement a)) }
 {
     match first {
         Some(first) => for_first(alloc, at, first, test, step, a),

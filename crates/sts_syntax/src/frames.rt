@@ -139,7 +139,8 @@ fn declared_weight(each: &[TypedBinding]) -> u64
 
 /// What each turn of a loop weighs: its test, its step and a body of this weight.
 fn turn_weight(test: &Option<TypedExpr>, step: &Option<TypedExpr>, body: u64) -> u64
-    ensures { result ≡ min (w.optional_weight (optional_typed_tree test.now) + w.optional_weight (optional_typed_tree step.now) + body) (2 ^ 64 - 1) }
+    ensures { result ≡ min (w.optional_weight (optional_typed_tree test.now)
+        + w.optional_weight (optional_typed_tree step.now) + body) (2 ^ 64 - 1) }
 {
     sum(optional_weight(test), sum(optional_weight(step), body))
 }

@@ -175,7 +175,8 @@ fn placed_hold(places: &[ServicePlace], below: u64, args: &[TypedExpr]) -> u64
     requires few { m.total (w.weights (typed_trees args.now)) < 2 ^ 40 }
     requires places { length places.now ≤ 4 }
     requires below { below + length places.now ≤ 4 }
-    ensures { result ≡ m.stacked below (placed (λ n. 1) (map service_place places.now) (m.holds (typed_trees args.now))) }
+    ensures { result
+        ≡ m.stacked below (placed (λ n. 1) (map service_place places.now) (m.holds (typed_trees args.now))) }
 {
     match places {
         [] => stacked_hold(below, args),

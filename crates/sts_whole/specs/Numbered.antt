@@ -10,6 +10,7 @@ use Rattle.sts_whole.specs.declared.build_parts.ClassParts.{ClassParts}
 
 -- the members of a class, and what comes behind them
 pub record AreNumbered (l : Plan) (a : ClassParts) : Type 0 where
-  pub declarations : a.first.declaration + length (member_entries (naming l) a.class (class_members a.members.now)) < 2 ^ 64
+  pub declarations : a.first.declaration
+      + length (member_entries (naming l) a.class (class_members a.members.now)) < 2 ^ 64
   pub functions : a.first.function + members_numbered (class_members a.members.now) < 2 ^ 32
   pub takes : 1 + length (maker_takes_of l.known.now.classes a.class) < 2 ^ 32

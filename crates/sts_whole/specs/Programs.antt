@@ -19,7 +19,8 @@ source_after P texts script steps = source_run P texts script.end (world_entries
 
 -- For these free words the run of an image within a budget looks, after the instructions executed, like its program's source after these counted steps: no more of them than instructions
 -- of the budget, and one at least for each 512 of it, where the source hasn't ended.
-pub record ImageReaches (P : TypedProgram) (texts : List ByteList) (image : List ℕ) (script : Script) (budget : ℕ) (free : List ℕ) (executed steps : ℕ) : Type 0 where
+pub record ImageReaches (P : TypedProgram) (texts : List ByteList) (image : List ℕ) (script : Script) (budget : ℕ)
+    (free : List ℕ) (executed steps : ℕ) : Type 0 where
   pub is_executed : IsExecuted (world_after image script free) budget executed
   pub alike : LooksLike (source_after P texts script steps).board (world_after image script free executed).board
   pub at_most : steps ≤ budget
@@ -27,7 +28,8 @@ pub record ImageReaches (P : TypedProgram) (texts : List ByteList) (image : List
       → (n ≤ steps) ⊎ (over (source_after P texts script steps).board ≡ true)
 
 -- The same with what the source has met then.
-pub record Met (P : TypedProgram) (texts : List ByteList) (image : List ℕ) (script : Script) (budget : ℕ) (free : List ℕ) : Type 0 where
+pub record Met (P : TypedProgram) (texts : List ByteList) (image : List ℕ) (script : Script) (budget : ℕ)
+    (free : List ℕ) : Type 0 where
   pub executed : ℕ
   pub steps : ℕ
   pub reaches : ImageReaches P texts image script budget free executed steps

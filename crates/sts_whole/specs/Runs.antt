@@ -21,7 +21,8 @@ counted_on b executed =
 
 -- For some list of free words, the run of an image after the instructions executed ended so, or not yet; its transcript was taken, the devices met
 -- what it met, and this was counted.
-pub record RunsTo {B : Type 0} (account : B → Account) (image : List ℕ) (script : EventScript) (budget : ℕ) (old new : Outside B) (end : Option RunEnd) (stats : Stats) : Type 0 where
+pub record RunsTo {B : Type 0} (account : B → Account) (image : List ℕ) (script : EventScript) (budget : ℕ)
+    (old new : Outside B) (end : Option RunEnd) (stats : Stats) : Type 0 where
   pub free : List ℕ
   pub executed : ℕ
   pub moves : List Move

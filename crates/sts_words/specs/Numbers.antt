@@ -11,5 +11,6 @@ is_number word = nat_le 1 (length word) && nat_le (length word) 10 && list_all i
 -- the number from 1 to `most` that a word is
 abbrev pub number_within : ℕ → List ℕ → Option ℕ
 number_within most word =
-    if is_number word && nat_le 1 (digits_value 10 word) && nat_le (digits_value 10 word) most then Some (digits_value 10 word)
+    if is_number word && nat_le 1 (digits_value 10 word) && nat_le (digits_value 10 word) most
+    then Some (digits_value 10 word)
     else None

@@ -18,7 +18,8 @@ pub data Asked : Type 0 where
 abbrev pub order_view : Order → Asked
 order_view (Check name) = check_program name.now
 order_view (Build name) = build_program name.now
-order_view (Run program script budget stats image) = run_program program.now (option_map (λ name. name.now) script) budget stats image
+order_view (Run program script budget stats image) =
+    run_program program.now (option_map (λ name. name.now) script) budget stats image
 order_view (RunHex image script budget) = run_image image.now (option_map (λ name. name.now) script) budget
 order_view (RunAt program script arrivals budget) = run_at program.now script.now arrivals.now budget
 order_view (Class name budget) = run_class name.now budget

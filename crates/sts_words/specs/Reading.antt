@@ -10,7 +10,8 @@ nothing = record { names = []; budget = None; stats = false; image = false }
 
 -- what is said with one more part, where that option doesn't stand yet
 abbrev pub added : Said → Part → Option Said
-added said (a_name word) = if nat_le (length said.names) 2 then Some (record said { names = said.names ++ word ∷ [] }) else None
+added said (a_name word) =
+    if nat_le (length said.names) 2 then Some (record said { names = said.names ++ word ∷ [] }) else None
 added said (a_budget number) = if is_some said.budget then None else Some (record said { budget = Some number })
 added said the_stats = if said.stats then None else Some (record said { stats = true })
 added said the_image = if said.image then None else Some (record said { image = true })

@@ -18,7 +18,8 @@ names_view (Two first second) = first.now ∷ second.now ∷ []
 names_view (Three first second third) = first.now ∷ second.now ∷ third.now ∷ []
 
 abbrev pub said_view : Given → Said
-said_view given = record { names = names_view given.names; budget = given.budget; stats = given.stats; image = given.image }
+said_view given =
+    record { names = names_view given.names; budget = given.budget; stats = given.stats; image = given.image }
 
 -- a name, and that of a script or none
 abbrev pub named_view : Bor (List ℕ) × Option (Bor (List ℕ)) → List ℕ × Option (List ℕ)

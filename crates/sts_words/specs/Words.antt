@@ -94,7 +94,8 @@ pub record Said : Type 0 where
 -- Each option stands at most once among these parts; and no command has more than three names.
 abbrev pub are_single : List Part → Bool
 are_single parts =
-    nat_le (length (names_of parts)) 3 && (nat_le (length (budgets_of parts)) 1 && (nat_le (count_of_stats parts) 1 && nat_le (count_of_images parts) 1))
+    nat_le (length (names_of parts)) 3
+    && (nat_le (length (budgets_of parts)) 1 && (nat_le (count_of_stats parts) 1 && nat_le (count_of_images parts) 1))
 
 -- what these parts say, where each option stands at most once
 abbrev pub said_by : List Part → Option Said
@@ -129,10 +130,13 @@ plain_name said = if is_some said.budget || (said.stats || said.image) then None
 abbrev pub run_by : Said → Option Asked
 run_by said =
     if said.image && not said.stats then None
-    else option_map (λ named. run_program named.0 named.1 (unwrap_or said.budget default_budget) said.stats said.image) (with_script said.names)
+    else option_map (λ named. run_program named.0 named.1 (unwrap_or said.budget default_budget) said.stats said.image)
+    (with_script said.names)
 
 abbrev pub run_hex_by : Said → Option Asked
-run_hex_by said = if said.stats || said.image then None else option_map (λ named. run_image named.0 named.1 (unwrap_or said.budget default_budget)) (with_script said.names)
+run_hex_by said =
+    if said.stats || said.image then None
+    else option_map (λ named. run_image named.0 named.1 (unwrap_or said.budget default_budget)) (with_script said.names)
 
 -- three names: a program's, a script's and that of arrivals
 abbrev pub with_arrivals : List (List ℕ) → Option (List ℕ × List ℕ × List ℕ)
@@ -140,15 +144,20 @@ with_arrivals (name ∷ script ∷ arrivals ∷ []) = Some (name, script, arriva
 with_arrivals other = None
 
 abbrev pub run_at_by : Said → Option Asked
-run_at_by said = if said.stats || said.image then None else option_map (λ named. run_at named.0 named.1 named.2 (unwrap_or said.budget default_budget)) (with_arrivals said.names)
+run_at_by said =
+    if said.stats || said.image then None else option_map
+    (λ named. run_at named.0 named.1 named.2 (unwrap_or said.budget default_budget)) (with_arrivals said.names)
 
 abbrev pub class_by : Said → Option Asked
-class_by said = if said.stats || said.image then None else option_map (λ name. run_class name (unwrap_or said.budget default_budget)) (one_name said.names)
+class_by said =
+    if said.stats || said.image then None
+    else option_map (λ name. run_class name (unwrap_or said.budget default_budget)) (one_name said.names)
 
 abbrev pub big_by : Said → Option Asked
 big_by said =
     if said.image then None else
-    option_map (λ size. run_big size (unwrap_or said.budget default_budget) said.stats) (option_and_then (number_within most_size) (one_name said.names))
+    option_map (λ size. run_big size (unwrap_or said.budget default_budget) said.stats)
+    (option_and_then (number_within most_size) (one_name said.names))
 
 -- what a command asks for with what is said behind it
 abbrev pub asked_by : List ℕ → Said → Option Asked

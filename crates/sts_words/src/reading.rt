@@ -32,7 +32,8 @@ fn with_word<'a>(given: Given<'a>, awaits: bool, word: &'a str) -> Option<(Given
 
 /// What the words behind a command say, if each is a part and each option stands at most once.
 fn given_by<'a>(words: &'a [String]) -> Option<Given<'a>>
-    ensures said { option_map said_view result ≡ option_and_then spec.said_by (spec.parts_from false (map string_bytes words.now)) }
+    ensures said { option_map said_view result
+        ≡ option_and_then spec.said_by (spec.parts_from false (map string_bytes words.now)) }
     ensures range { IfSome result (λ given. HasBudget given.budget) }
 {
     let mut so_far = (Given::nothing(), false);

@@ -71,7 +71,8 @@ impl<'a> Given<'a> {
 
     /// The same with a budget, where the word is one and none stands there yet.
     pub fn with_budget(self, word: &str) -> Option<Given<'a>>
-        ensures said { option_map said_view result ≡ option_and_then (added (said_view self.entry)) (spec.budget_part word.now) }
+        ensures said { option_map said_view result
+            ≡ option_and_then (added (said_view self.entry)) (spec.budget_part word.now) }
         ensures range { HasBudget self.entry.budget → IfSome result (λ given. HasBudget given.budget) }
     {
         let number = read_number(word, MOST_BUDGET)?;
@@ -88,7 +89,8 @@ impl<'a> Given<'a> {
 
     /// The same with a name, where the word is one and fewer than three stand there.
     fn with_name(self, word: &'a str) -> Option<Given<'a>>
-        ensures said { option_map said_view result ≡ option_and_then (added (said_view self.entry)) (spec.name_part word.entry.now) }
+        ensures said { option_map said_view result
+            ≡ option_and_then (added (said_view self.entry)) (spec.name_part word.entry.now) }
         ensures range { HasBudget self.entry.budget → IfSome result (λ given. HasBudget given.budget) }
     {
         if !can_be_name(word) {
@@ -142,7 +144,8 @@ impl<'a> Given<'a> {
 
     /// The same with what a word says by itself, where it says something that may stand there.
     pub fn with(self, word: &'a str) -> Option<Given<'a>>
-        ensures said { option_map said_view result ≡ option_and_then (added (said_view self.entry)) (spec.part_of word.entry.now) }
+        ensures said { option_map said_view result
+            ≡ option_and_then (added (said_view self.entry)) (spec.part_of word.entry.now) }
         ensures range { HasBudget self.entry.budget → IfSome result (λ given. HasBudget given.budget) }
     {
         if word == "--stats" {

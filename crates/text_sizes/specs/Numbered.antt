@@ -55,7 +55,8 @@ abbrev mutual
   statement_numbered (IfElse at test a b) = tree_numbered test + statement_numbered a + statement_numbered b
   statement_numbered (While at test a) = tree_numbered test + statement_numbered a
   statement_numbered (DoWhile at a test) = statement_numbered a + tree_numbered test
-  statement_numbered (For at first test step a) = first_numbered first + optional_numbered test + optional_numbered step + statement_numbered a
+  statement_numbered (For at first test step a) =
+      first_numbered first + optional_numbered test + optional_numbered step + statement_numbered a
   statement_numbered (ForOf at fixed x list a) = 3 + (tree_numbered list + statement_numbered a)
   statement_numbered (Return at value) = optional_numbered value
   statement_numbered (Break at) = 0

@@ -13,8 +13,10 @@ ghost use Rattle.text_sizes.specs.Numbered.{all_numbered};
 
 /// A text has at most one token for each of its bytes, and the last one.
 pub fn texts_have_few_tokens()
-    ensures bytes { (tables : Tables) (text : List ℕ) (all : List Token) → IsTokenization tables text all → length all ≤ length text + 1 }
-    ensures most { (tables : Tables) (text : List ℕ) (all : List Token) → IsTokenization tables text all → length all ≤ most_bytes + 1 }
+    ensures bytes { (tables : Tables) (text : List ℕ) (all : List Token) → IsTokenization tables text all
+        → length all ≤ length text + 1 }
+    ensures most { (tables : Tables) (text : List ℕ) (all : List Token) → IsTokenization tables text all
+        → length all ≤ most_bytes + 1 }
 {}
 
 /// A program has fewer functions, constructors that aren't written and handlers included, than the tokens that spell it, and fewer declarations of globals, functions,
@@ -22,5 +24,6 @@ pub fn texts_have_few_tokens()
 pub fn programs_have_few_parts()
     ensures functions { (s : Source) (p : Program) → IsProgram s p → all_routines p < length s.tokens }
     ensures numbered { (s : Source) (p : Program) → IsProgram s p → all_numbered p < length s.tokens }
-    ensures declarations { (s : Source) (p : Program) → IsProgram s p → (names : Naming) (first : ℕ) → length (entries_from names first p) < length s.tokens }
+    ensures declarations { (s : Source) (p : Program) → IsProgram s p → (names : Naming) (first : ℕ)
+        → length (entries_from names first p) < length s.tokens }
 {}

@@ -10,6 +10,7 @@ ghost use Rattle.thumb_code.specs.Asking.{AsksOnly, ServesOnly};
 
 /// Where a service is asked for, PC alone has changed: by an instruction, and by a step of the machine with one RAM.
 pub fn services_change_pc_alone()
-    ensures instruction { (i : Instr) (next : ℕ) (s : Registers) (m : Ram) → AsksOnly s m (execute ram_memory m (effect next s i)) }
+    ensures instruction { (i : Instr) (next : ℕ) (s : Registers) (m : Ram)
+        → AsksOnly s m (execute ram_memory m (effect next s i)) }
     ensures step { (s : State) → ServesOnly s.registers s.memory (step s) }
 {}

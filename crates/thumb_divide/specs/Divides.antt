@@ -31,4 +31,5 @@ pub record Divided (s q : Registers) : Type 0 where
 
 -- Each call divides, in at most so many instructions, none of which touches memory.
 abbrev pub Divides : {S : Type 0} → Executor S → (ℕ → Fetched) → S → ℕ → ℕ → Type 0
-Divides over fetch t sp at = (s : Registers) → Called sp at s → (q : Registers) × Within over fetch t most_instructions s q × Divided s q
+Divides over fetch t sp at =
+    (s : Registers) → Called sp at s → (q : Registers) × Within over fetch t most_instructions s q × Divided s q

@@ -12,9 +12,12 @@ ghost use Rattle.thumb_divide.specs.Banked.{IsInRegion};
 /// it then divides, in at most 280 instructions, and no word of the bank or of shared memory changes. That it does so over any memory that reads
 /// such a flash is in `proofs/Laws.antt`.
 pub fn the_routine_divides()
-    ensures bytes { (flash : List ℕ) (at : ℕ) → at % 2 ≡ 0 → at + routine_length ≤ flash_end → ((k : ℕ) → k < routine_length → flash_byte flash (at + k) ≡ slice_index routine_bytes k)
+    ensures bytes { (flash : List ℕ) (at : ℕ) → at % 2 ≡ 0 → at + routine_length ≤ flash_end
+        → ((k : ℕ) → k < routine_length → flash_byte flash (at + k) ≡ slice_index routine_bytes k)
         → HasRoutine flash at }
-    ensures fetched { (flash : List ℕ) (base at : ℕ) → is_base base ≡ true → HasRoutine flash at → HoldsRoutine (fetched flash base) at }
-    ensures divides { (flash : List ℕ) (b : Bank) (free : List ℕ) (base at : ℕ) → is_base base ≡ true → IsInRegion b → HasRoutine flash at
+    ensures fetched { (flash : List ℕ) (base at : ℕ) → is_base base ≡ true → HasRoutine flash at
+        → HoldsRoutine (fetched flash base) at }
+    ensures divides { (flash : List ℕ) (b : Bank) (free : List ℕ) (base at : ℕ) → is_base base ≡ true → IsInRegion b
+        → HasRoutine flash at
         → Divides (over_moving bank_memory bank_move) (fetched flash base) (b, free) (bank_sp b) at }
 {}

@@ -147,10 +147,12 @@ finds_global slot = Number 1 (0x20000000 + 4 * slot)
 
 -- the services that answer in r0; behind each other one r0 becomes 0, unless nobody reads that
 abbrev pub answers_in_r0 : ℕ → Bool
-answers_in_r0 service = service == TIME || service == EVENT_VALUE || service == BUTTON || service == TEXT_GLYPH || service == NUMBER_GLYPH
+answers_in_r0 service =
+    service == TIME || service == EVENT_VALUE || service == BUTTON || service == TEXT_GLYPH || service == NUMBER_GLYPH
 
 abbrev pub asks : Bool → ℕ → List Piece
-asks unread service = if unread || answers_in_r0 service then Plain (Svc service) ∷ [] else Plain (Svc service) ∷ Plain (MovImm 0 0) ∷ []
+asks unread service =
+    if unread || answers_in_r0 service then Plain (Svc service) ∷ [] else Plain (Svc service) ∷ Plain (MovImm 0 0) ∷ []
 
 -- Words for an object of a class, whose first word in flash says how many; then the class's address goes into the first of them. RAM
 -- begins with zeros and no word is given out twice, so the fields are 0 already.
@@ -171,7 +173,9 @@ pops rd array label =
 
 -- the method in a slot of the class of the object in the first outgoing word is called
 abbrev pub calls_slot : ℕ → ℕ → List Piece
-calls_slot slot label = Plain (LdrSp 0 0) ∷ tests_null 0 label ++ (Plain (LdrImm 1 0 0) ∷ Plain (LdrImm 1 1 (slot + 1)) ∷ Plain (Blx 1) ∷ [])
+calls_slot slot label =
+    Plain (LdrSp 0 0) ∷ tests_null 0 label ++ (Plain (LdrImm 1 0 0) ∷ Plain (LdrImm 1 1 (slot + 1))
+    ∷ Plain (Blx 1) ∷ [])
 
 -- a function, and the place of each temporary
 module _ (f : Function) (place : ℕ → Place) where
@@ -209,25 +213,35 @@ module _ (f : Function) (place : ℕ → Place) where
   abbrev pub op_pieces : ℕ → Op → List Piece
   op_pieces k (Const to value) = Number (made_in k to) (cast_unsigned w32 value) ∷ keep k to ∷ []
   op_pieces k (Copy to from) = copies f (is_unread f k) (place to) (place from)
-  op_pieces k (Unary to op from) = bring 0 from ∷ unary f (made_in k to) (its_register 0 from) op (3 * k + 1) ++ (keep k to ∷ [])
+  op_pieces k (Unary to op from) =
+      bring 0 from ∷ unary f (made_in k to) (its_register 0 from) op (3 * k + 1) ++ (keep k to ∷ [])
   op_pieces k (Binary to op left right) =
-      bring 0 left ∷ bring 1 right ∷ binary f (made_in k to) (its_register 0 left) (its_register 1 right) op (3 * k + 1) ++ (keep k to ∷ [])
+      bring 0 left ∷ bring 1 right ∷ binary f (made_in k to) (its_register 0 left) (its_register 1 right) op (3 * k + 1)
+      ++ (keep k to ∷ [])
   op_pieces k (GlobalGet to slot) = finds_global slot ∷ Plain (LdrImm (made_in k to) 1 0) ∷ keep k to ∷ []
   op_pieces k (GlobalSet slot from) = bring 0 from ∷ finds_global slot ∷ Plain (StrImm (its_register 0 from) 1 0) ∷ []
   op_pieces k (FieldGet to object field) =
-      bring 0 object ∷ tests_null (its_register 0 object) (3 * k + 1) ++ (loads_field (made_in k to) (its_register 0 object) field ++ (keep k to ∷ []))
+      bring 0 object ∷ tests_null (its_register 0 object) (3 * k + 1)
+      ++ (loads_field (made_in k to) (its_register 0 object) field ++ (keep k to ∷ []))
   op_pieces k (FieldSet object field from) =
-      bring 0 object ∷ tests_null (its_register 0 object) (3 * k + 1) ++ (bring 1 from ∷ stores_field (its_register 1 from) (its_register 0 object) field)
+      bring 0 object ∷ tests_null (its_register 0 object) (3 * k + 1)
+      ++ (bring 1 from ∷ stores_field (its_register 1 from) (its_register 0 object) field)
   op_pieces k (ItemGet to array index) =
-      bring 0 array ∷ bring 1 index ∷ tests_null (its_register 0 array) (3 * k + 1) ++ (tests_index (its_register 0 array) (its_register 1 index) (3 * k + 2)
-      ++ (finds_item (its_register 0 array) (its_register 1 index) ++ (Plain (LdrReg (made_in k to) 2 1) ∷ keep k to ∷ [])))
+      bring 0 array ∷ bring 1 index ∷ tests_null (its_register 0 array) (3 * k + 1)
+      ++ (tests_index (its_register 0 array) (its_register 1 index) (3 * k + 2)
+      ++ (finds_item (its_register 0 array) (its_register 1 index)
+      ++ (Plain (LdrReg (made_in k to) 2 1) ∷ keep k to ∷ [])))
   op_pieces k (ItemSet array index from) =
-      bring 0 array ∷ bring 1 index ∷ tests_null (its_register 0 array) (3 * k + 1) ++ (tests_index (its_register 0 array) (its_register 1 index) (3 * k + 2)
-      ++ (finds_item (its_register 0 array) (its_register 1 index) ++ (bring 3 from ∷ Plain (StrReg (its_register 3 from) 2 1) ∷ [])))
+      bring 0 array ∷ bring 1 index ∷ tests_null (its_register 0 array) (3 * k + 1)
+      ++ (tests_index (its_register 0 array) (its_register 1 index) (3 * k + 2)
+      ++ (finds_item (its_register 0 array) (its_register 1 index)
+      ++ (bring 3 from ∷ Plain (StrReg (its_register 3 from) 2 1) ∷ [])))
   op_pieces k (Length to array) =
-      bring 0 array ∷ tests_null (its_register 0 array) (3 * k + 1) ++ (Plain (LdrImm (made_in k to) (its_register 0 array) 1) ∷ keep k to ∷ [])
+      bring 0 array ∷ tests_null (its_register 0 array) (3 * k + 1)
+      ++ (Plain (LdrImm (made_in k to) (its_register 0 array) 1) ∷ keep k to ∷ [])
   op_pieces k (Pop to array) =
-      bring 0 array ∷ tests_null (its_register 0 array) (3 * k + 1) ++ (pops (made_in k to) (its_register 0 array) (3 * k + 2) ++ (keep k to ∷ []))
+      bring 0 array ∷ tests_null (its_register 0 array) (3 * k + 1)
+      ++ (pops (made_in k to) (its_register 0 array) (3 * k + 2) ++ (keep k to ∷ []))
   op_pieces k (TextOf to text) = Address (made_in k to) (Text text) ∷ keep k to ∷ []
   op_pieces k (MakeObject to class) = makes_object class ++ (land k to ∷ [])
   op_pieces k (MakeArray to room) = makes_array room ++ (land k to ∷ [])
@@ -236,8 +250,10 @@ module _ (f : Function) (place : ℕ → Place) where
   op_pieces k (HandlerOf to function) = Address (made_in k to) (FunctionOf function) ∷ keep k to ∷ []
   op_pieces k (Ask to service args) = loads 0 args ++ (asks (is_unread f k) service ++ (land k to ∷ []))
   op_pieces k (Jump target) = Go always (3 * target) ∷ []
-  op_pieces k (Branch when target) = bring 0 when ∷ Plain (CmpImm (its_register 0 when) 0) ∷ Go unequal (3 * target) ∷ []
-  op_pieces k (Return from) = get 0 from ∷ raises (below_saved f place) ++ (Plain (PopMany (saved_list f place) true) ∷ [])
+  op_pieces k (Branch when target) =
+      bring 0 when ∷ Plain (CmpImm (its_register 0 when) 0) ∷ Go unequal (3 * target) ∷ []
+  op_pieces k (Return from) =
+      get 0 from ∷ raises (below_saved f place) ++ (Plain (PopMany (saved_list f place) true) ∷ [])
 
   -- a parameter that doesn't stay where it comes in is moved to its place
   abbrev pub move_pieces : Place → ℕ → List Piece
@@ -256,7 +272,8 @@ module _ (f : Function) (place : ℕ → Place) where
   entry_pieces =
       Plain (MovHigh 3 14) ∷ Plain (MovHigh 0 13) ∷ Number 1 (0x20003080 + 4 * words f) ∷ Plain (CmpReg 0 1)
       ∷ unless at_least_unsigned 102 (3 * length f.ops)
-      ++ (Plain (MovHigh 14 3) ∷ Plain (Push (saved_list f place) true) ∷ lowers (below_saved f place) ++ moves_pieces 0 f.params)
+      ++ (Plain (MovHigh 14 3) ∷ Plain (Push (saved_list f place) true) ∷ lowers (below_saved f place)
+      ++ moves_pieces 0 f.params)
 
   -- the ops from op k on, each behind its label
   abbrev pub ops_pieces : ℕ → List Op → List Piece
@@ -265,4 +282,5 @@ module _ (f : Function) (place : ℕ → Place) where
 
 -- a function's pieces
 abbrev pub function_pieces : Placed → List Piece
-function_pieces p = entry_pieces p.function (place_of p.places) ++ ops_pieces p.function (place_of p.places) 0 p.function.ops
+function_pieces p =
+    entry_pieces p.function (place_of p.places) ++ ops_pieces p.function (place_of p.places) 0 p.function.ops

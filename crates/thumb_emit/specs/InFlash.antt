@@ -62,7 +62,8 @@ pub record ShowsText (flash : List ℕ) (at : ℕ) (bytes : ByteList) : Type 0 w
   pub bytes_are : text_at flash at ≡ bytes
 
 -- A flash shows a program whose functions have these bodies.
-pub record InFlash (C : FlatCode) (bodies : List (List Piece)) (texts : List ByteList) (flash : List ℕ) (a : Addresses) : Type 0 where
+pub record InFlash (C : FlatCode) (bodies : List (List Piece)) (texts : List ByteList) (flash : List ℕ)
+    (a : Addresses) : Type 0 where
   -- it is made of bytes
   pub bytes : (k : ℕ) → flash_byte flash k < 256
   -- word 0: every fiber's base is the end of the usable stack; word 1: main
@@ -75,9 +76,11 @@ pub record InFlash (C : FlatCode) (bodies : List (List Piece)) (texts : List Byt
   -- each function has its body, and no function has the routine's number
   pub bodies_are : length bodies ≡ length C.functions
   pub few : length C.functions ≤ division
-  pub functions : (f : ℕ) (body : List Piece) → slice_get bodies f ≡ Some body → ShowsFunction flash a (a.function f) body
+  pub functions : (f : ℕ) (body : List Piece) → slice_get bodies f ≡ Some body
+      → ShowsFunction flash a (a.function f) body
   pub routine : HasRoutine flash a.routine
   pub classes : (c : ℕ) (class : FlatClass) → slice_get C.classes c ≡ Some class → ShowsClass flash a (a.class c) class
   -- each text that is named is there, and no two are at one address
-  pub named_texts : (i : ℕ) → IsNamed bodies i → (bytes : ByteList) × (slice_get texts i ≡ Some bytes) × ShowsText flash (a.text i) bytes
+  pub named_texts : (i : ℕ) → IsNamed bodies i
+      → (bytes : ByteList) × (slice_get texts i ≡ Some bytes) × ShowsText flash (a.text i) bytes
   pub apart : (i j : ℕ) → IsNamed bodies i → IsNamed bodies j → a.text i ≡ a.text j → i ≡ j

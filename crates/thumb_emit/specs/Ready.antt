@@ -84,9 +84,11 @@ entry_of p = entry_pieces p.function (place_of p.places)
 abbrev pub reaches_item : Placed → ℕ → ℕ → ℕ → List Piece
 reaches_item p k array index =
     brought p 0 array ∷ brought p 1 index ∷ tests_null (register p 0 array) (3 * k + 1)
-    ++ (tests_index (register p 0 array) (register p 1 index) (3 * k + 2) ++ finds_item (register p 0 array) (register p 1 index))
+    ++ (tests_index (register p 0 array) (register p 1 index) (3 * k + 2)
+    ++ finds_item (register p 0 array) (register p 1 index))
 
 -- the entry up to where the frame is written
 abbrev pub tests_depth : Placed → ℕ → List Piece
 tests_depth p label =
-    Plain (MovHigh 3 14) ∷ Plain (MovHigh 0 13) ∷ Number 1 (0x20003080 + 4 * words p.function) ∷ Plain (CmpReg 0 1) ∷ unless at_least_unsigned 102 label
+    Plain (MovHigh 3 14) ∷ Plain (MovHigh 0 13) ∷ Number 1 (0x20003080 + 4 * words p.function) ∷ Plain (CmpReg 0 1)
+    ∷ unless at_least_unsigned 102 label

@@ -70,7 +70,8 @@ fn move_parameter(
 fn move_parameters(out: &mut Seq<Piece>, placed: &Placed) -> Result<(), NoMemory>
     requires ready { IsReady placed.now }
     requires labels { 3 * length placed.now.function.ops + 1 < 2 ^ 32 }
-    ensures { OnOk result (out.new ≡ out.old ++ moves_pieces placed.now.function (place_of placed.now.places) 0 placed.now.function.params) }
+    ensures { OnOk result (out.new
+        ≡ out.old ++ moves_pieces placed.now.function (place_of placed.now.places) 0 placed.now.function.params) }
 {
     for t in 0..placed.function.params {
         move_parameter(out, placed, place_of(placed, t), t)?;

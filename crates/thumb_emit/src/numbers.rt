@@ -179,10 +179,14 @@ fn compare(
 /// An instruction whose target is its first operand: `|`, `^`, `&`, and else `*`.
 fn combine(out: &mut Seq<Piece>, placed: &Placed, r: Three, op: u8) -> Result<(), NoMemory>
     requires labels { 3 * length placed.now.function.ops + 1 < 2 ^ 32 }
-    ensures bit_or { op ≡ 1 → OnOk result (out.new ≡ out.old ++ combines placed.now.function r.rd r.left r.right i.Orr) }
-    ensures bit_xor { op ≡ 2 → OnOk result (out.new ≡ out.old ++ combines placed.now.function r.rd r.left r.right i.Eor) }
-    ensures bit_and { op ≡ 3 → OnOk result (out.new ≡ out.old ++ combines placed.now.function r.rd r.left r.right i.And) }
-    ensures multiply { op ≡ 15 → OnOk result (out.new ≡ out.old ++ combines placed.now.function r.rd r.left r.right i.Mul) }
+    ensures bit_or { op ≡ 1
+        → OnOk result (out.new ≡ out.old ++ combines placed.now.function r.rd r.left r.right i.Orr) }
+    ensures bit_xor { op ≡ 2
+        → OnOk result (out.new ≡ out.old ++ combines placed.now.function r.rd r.left r.right i.Eor) }
+    ensures bit_and { op ≡ 3
+        → OnOk result (out.new ≡ out.old ++ combines placed.now.function r.rd r.left r.right i.And) }
+    ensures multiply { op ≡ 15
+        → OnOk result (out.new ≡ out.old ++ combines placed.now.function r.rd r.left r.right i.Mul) }
 {
     let rdn = beside(2, r.rd, r.right);
     let rm = r.right;
@@ -205,9 +209,12 @@ fn combine(out: &mut Seq<Piece>, placed: &Placed, r: Three, op: u8) -> Result<()
 /// One register shifted by another modulo 32: `<<`, `>>`, and else `>>>`.
 fn shift(out: &mut Seq<Piece>, placed: &Placed, r: Three, op: u8) -> Result<(), NoMemory>
     requires labels { 3 * length placed.now.function.ops + 1 < 2 ^ 32 }
-    ensures left { op ≡ 10 → OnOk result (out.new ≡ out.old ++ shifts placed.now.function r.rd r.left r.right i.LslReg) }
-    ensures right { op ≡ 11 → OnOk result (out.new ≡ out.old ++ shifts placed.now.function r.rd r.left r.right i.AsrReg) }
-    ensures unsigned { op ≡ 12 → OnOk result (out.new ≡ out.old ++ shifts placed.now.function r.rd r.left r.right i.LsrReg) }
+    ensures left { op ≡ 10
+        → OnOk result (out.new ≡ out.old ++ shifts placed.now.function r.rd r.left r.right i.LslReg) }
+    ensures right { op ≡ 11
+        → OnOk result (out.new ≡ out.old ++ shifts placed.now.function r.rd r.left r.right i.AsrReg) }
+    ensures unsigned { op ≡ 12
+        → OnOk result (out.new ≡ out.old ++ shifts placed.now.function r.rd r.left r.right i.LsrReg) }
 {
     let rdn = r.rd;
     let instr = match op {
@@ -326,7 +333,8 @@ pub(crate) fn binary(
     requires right { operands.right < temporaries placed.now.function }
     requires label { 3 * at.k + 1 < 2 ^ 32 }
     requires labels { 3 * length placed.now.function.ops + 1 < 2 ^ 32 }
-    ensures { OnOk result (out.new ≡ out.old ++ pieces_of placed.now at.k (o.Binary to op operands.left operands.right)) }
+    ensures { OnOk result
+        (out.new ≡ out.old ++ pieces_of placed.now at.k (o.Binary to op operands.left operands.right)) }
 {
     let Operands { left, right } = operands;
     out.push(bring(placed, 0, left))?;

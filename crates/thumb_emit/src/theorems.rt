@@ -32,17 +32,24 @@ pub fn pieces_name_what_ops_name()
 /// An op takes no more instructions and bytes than its row says, whatever the places are, and an entry of at most 8 parameters no more than its
 /// bounds; each has a piece with bytes. So a function's bytes are within the sum of its ops' rows and the entry's.
 pub fn pieces_keep_their_bounds()
-    ensures instructions { (f : Function) (place : ℕ → Place) (k : ℕ) (op : Op) → total_cost (op_pieces f place k op) ≤ op_cost op }
-    ensures bytes { (f : Function) (place : ℕ → Place) (k : ℕ) (op : Op) → total_most (op_pieces f place k op) ≤ op_bytes op }
-    ensures entry_instructions { (f : Function) (place : ℕ → Place) → f.params ≤ 8 → total_cost (entry_pieces f place) ≤ entry_cost }
-    ensures entry_bytes { (f : Function) (place : ℕ → Place) → f.params ≤ 8 → total_most (entry_pieces f place) ≤ entry_bytes }
-    ensures function_bytes { (p : Placed) → p.function.params ≤ 8 → total_most (function_pieces p) ≤ ops_bytes p.function.ops + entry_bytes }
+    ensures instructions { (f : Function) (place : ℕ → Place) (k : ℕ) (op : Op)
+        → total_cost (op_pieces f place k op) ≤ op_cost op }
+    ensures bytes { (f : Function) (place : ℕ → Place) (k : ℕ) (op : Op)
+        → total_most (op_pieces f place k op) ≤ op_bytes op }
+    ensures entry_instructions { (f : Function) (place : ℕ → Place) → f.params ≤ 8
+        → total_cost (entry_pieces f place) ≤ entry_cost }
+    ensures entry_bytes { (f : Function) (place : ℕ → Place) → f.params ≤ 8
+        → total_most (entry_pieces f place) ≤ entry_bytes }
+    ensures function_bytes { (p : Placed) → p.function.params ≤ 8
+        → total_most (function_pieces p) ≤ ops_bytes p.function.ops + entry_bytes }
     ensures some { (f : Function) (place : ℕ → Place) (k : ℕ) (op : Op) → 0 < counted (op_pieces f place k op) }
     ensures some_at_entry { (f : Function) (place : ℕ → Place) → 0 < counted (entry_pieces f place) }
 {}
 
 /// A function saves every register in which a temporary of its stands. Where it saves any, some temporary stands in the last of them.
 pub fn saved_registers_reach_to_the_highest_used()
-    ensures each { (f : Function) (place : ℕ → Place) (t r : ℕ) → t < temporaries f → place t ≡ at.Reg r → r < 4 + saves f place }
-    ensures highest { (f : Function) (place : ℕ → Place) (k : ℕ) → saves f place ≡ k + 1 → (t : ℕ) × (t < temporaries f) × (place t ≡ at.Reg (4 + k)) }
+    ensures each { (f : Function) (place : ℕ → Place) (t r : ℕ) → t < temporaries f → place t ≡ at.Reg r
+        → r < 4 + saves f place }
+    ensures highest { (f : Function) (place : ℕ → Place) (k : ℕ) → saves f place ≡ k + 1
+        → (t : ℕ) × (t < temporaries f) × (place t ≡ at.Reg (4 + k)) }
 {}

@@ -190,7 +190,8 @@ fn test_item(
     null: u32,
     past: u32,
 ) -> Result<(), NoMemory>
-    ensures { OnOk result (out.new ≡ out.old ++ (tests_null array null ++ (tests_index array index past ++ finds_item array index))) }
+    ensures { OnOk result
+        (out.new ≡ out.old ++ (tests_null array null ++ (tests_index array index past ++ finds_item array index))) }
 {
     test_null(out, array, null)?;
     test_index(out, array, index, past)?;

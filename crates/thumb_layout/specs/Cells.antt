@@ -105,7 +105,8 @@ piece_cells to (Plain instr) form at entry_at = Ins instr ∷ []
 piece_cells to (Label label) form at entry_at = []
 piece_cells to (Go cond label) form at entry_at = branch cond form at (to label)
 piece_cells to (CallTo function) form at entry_at = Call function ∷ []
-piece_cells to (Number rd value) form at entry_at = if is_small value then Ins (MovImm rd value) ∷ [] else load rd at entry_at ∷ []
+piece_cells to (Number rd value) form at entry_at =
+    if is_small value then Ins (MovImm rd value) ∷ [] else load rd at entry_at ∷ []
 piece_cells to (Address rd what) form at entry_at = load rd at entry_at ∷ []
 
 -- Where the pools of chunks begin.
@@ -130,7 +131,8 @@ abbrev pub cells : (ℕ → ℕ) → List Piece → List ℕ → List Chunk → 
 cells to xs fs [] = []
 cells to [] fs (c ∷ cs) = pool c.behind c.after
 cells to (x ∷ xs) fs (c ∷ cs) =
-    over c.at c.body c.before ++ (piece_cells to x (form_of fs) c.body (last_entry c cs) ++ (pool c.behind c.after ++ cells to xs (rest_of fs) cs))
+    over c.at c.body c.before ++ (piece_cells to x (form_of fs) c.body (last_entry c cs)
+    ++ (pool c.behind c.after ++ cells to xs (rest_of fs) cs))
 
 -- The pieces' code.
 abbrev pub nothing : Laid

@@ -28,7 +28,9 @@ callee _ = 0
 module _ (flash : List ℕ) (base : ℕ) (entry : ℕ → ℕ) (word_of : What → ℕ) where
   -- A BL to an address stands at another.
   abbrev pub IsCall : ℕ → ℕ → Type 0
-  IsCall at to = (o : ℤ) × Fits (Bl o) × IsSpelling (half (Bl o)) (flash_half flash at) (flash_half flash (at + 2)) × (moved at o ≡ to)
+  IsCall at to =
+      (o : ℤ) × Fits (Bl o) × IsSpelling (half (Bl o)) (flash_half flash at) (flash_half flash (at + 2))
+      × (moved at o ≡ to)
 
   -- What was open is there.
   abbrev pub IsOpened : Bool → ℕ → What → Type 0
@@ -44,7 +46,8 @@ module _ (flash : List ℕ) (base : ℕ) (entry : ℕ → ℕ) (word_of : What �
 
   -- The flash has the code from the base on: its bytes, and what was open in it.
   pub record HasCode (code : Laid) : Type 0 where
-    pub bytes : (k : ℕ) → k < length code.bytes → IsOutside k code.fixes → flash_byte flash (base + k) ≡ slice_index code.bytes k
+    pub bytes : (k : ℕ) → k < length code.bytes → IsOutside k code.fixes
+        → flash_byte flash (base + k) ≡ slice_index code.bytes k
     pub fixes : AreFixed code.fixes
 
 abbrev pub form_at : List ℕ → ℕ → ℕ

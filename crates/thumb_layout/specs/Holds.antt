@@ -30,11 +30,18 @@ pub data Enters (fetch : ℕ → Fetched) (at body : ℕ) : Type 0 where
 
 -- A branch from an address to another: one instruction, or the opposite condition over one. What LR is after it is told: BL changes it.
 pub data Branches (fetch : ℕ → Fetched) (at cond to behind : ℕ) (link : ℕ → ℕ) : Type 0 where
-  Short : (o : ℤ) → cond < always → Stands fetch at (BCond cond o) behind → moved at o ≡ to → ((lr : ℕ) → link lr ≡ lr) → Branches fetch at cond to behind link
-  Middle : (o o' : ℤ) (n : ℕ) → cond < always → Stands fetch at (BCond (opposite cond) o) n → moved at o ≡ behind → Stands fetch n (B o') behind → moved n o' ≡ to → ((lr : ℕ) → link lr ≡ lr) → Branches fetch at cond to behind link
-  Far : (o o' : ℤ) (n : ℕ) → cond < always → Stands fetch at (BCond (opposite cond) o) n → moved at o ≡ behind → Stands fetch n (Bl o') behind → moved n o' ≡ to → ((lr : ℕ) → link lr ≡ word (behind + 1)) → Branches fetch at cond to behind link
-  Always : (o : ℤ) → cond ≡ always → Stands fetch at (B o) behind → moved at o ≡ to → ((lr : ℕ) → link lr ≡ lr) → Branches fetch at cond to behind link
-  AlwaysFar : (o : ℤ) → cond ≡ always → Stands fetch at (Bl o) behind → moved at o ≡ to → ((lr : ℕ) → link lr ≡ word (behind + 1)) → Branches fetch at cond to behind link
+  Short : (o : ℤ) → cond < always → Stands fetch at (BCond cond o) behind → moved at o ≡ to → ((lr : ℕ) → link lr ≡ lr)
+      → Branches fetch at cond to behind link
+  Middle : (o o' : ℤ) (n : ℕ) → cond < always → Stands fetch at (BCond (opposite cond) o) n → moved at o ≡ behind
+      → Stands fetch n (B o') behind → moved n o' ≡ to → ((lr : ℕ) → link lr ≡ lr)
+      → Branches fetch at cond to behind link
+  Far : (o o' : ℤ) (n : ℕ) → cond < always → Stands fetch at (BCond (opposite cond) o) n → moved at o ≡ behind
+      → Stands fetch n (Bl o') behind → moved n o' ≡ to → ((lr : ℕ) → link lr ≡ word (behind + 1))
+      → Branches fetch at cond to behind link
+  Always : (o : ℤ) → cond ≡ always → Stands fetch at (B o) behind → moved at o ≡ to → ((lr : ℕ) → link lr ≡ lr)
+      → Branches fetch at cond to behind link
+  AlwaysFar : (o : ℤ) → cond ≡ always → Stands fetch at (Bl o) behind → moved at o ≡ to
+      → ((lr : ℕ) → link lr ≡ word (behind + 1)) → Branches fetch at cond to behind link
 
 -- The address from which LDR at an address loads.
 abbrev pub loaded_from : ℕ → ℕ → ℕ
@@ -58,16 +65,19 @@ abbrev pub PieceAt : (ℕ → Fetched) → List ℕ → Places → ℕ → ℕ �
 PieceAt fetch flash p i at (Plain instr) = Stands fetch at instr (p.behind i)
 PieceAt fetch flash p i at (Label label) = (p.at i ≡ p.behind i) × (at ≡ p.behind i)
 PieceAt fetch flash p i at (Go cond label) = Branches fetch at cond (p.at (p.label label)) (p.behind i) (p.link i)
-PieceAt fetch flash p i at (CallTo function) = (o : ℤ) × Stands fetch at (Bl o) (p.behind i) × (moved at o ≡ p.entry function)
+PieceAt fetch flash p i at (CallTo function) =
+    (o : ℤ) × Stands fetch at (Bl o) (p.behind i) × (moved at o ≡ p.entry function)
 PieceAt fetch flash p i at (Number rd value) = Numbers fetch flash at rd value (p.behind i)
 PieceAt fetch flash p i at (Address rd what) = Loads fetch flash at rd (p.word_of what) (p.behind i)
 
 -- The pieces stand in flash at these places: each is entered, perhaps over a pool; where it goes on the next one is entered behind
 -- it; and a label that is gone to is the piece that it is said to be.
 pub record Holds (fetch : ℕ → Fetched) (flash : List ℕ) (p : Places) (xs : List Piece) : Type 0 where
-  pub each : (i : ℕ) (x : Piece) → slice_get xs i ≡ Some x → (body : ℕ) × Enters fetch (p.at i) body × PieceAt fetch flash p i body x
+  pub each : (i : ℕ) (x : Piece) → slice_get xs i ≡ Some x
+      → (body : ℕ) × Enters fetch (p.at i) body × PieceAt fetch flash p i body x
   pub next : (i : ℕ) (x : Piece) → slice_get xs i ≡ Some x → goes_on x ≡ true → p.behind i ≡ p.at (i + 1)
-  pub labels : (i cond label : ℕ) → slice_get xs i ≡ Some (Go cond label) → slice_get xs (p.label label) ≡ Some (Label label)
+  pub labels : (i cond label : ℕ) → slice_get xs i ≡ Some (Go cond label)
+      → slice_get xs (p.label label) ≡ Some (Label label)
 
 -- What is asked of a memory, at the states that belong to an SP: an instruction without accesses only goes on, a word of flash is
 -- loaded, and of the registers what an effect comes to hangs on SP alone.
@@ -75,7 +85,8 @@ pub record Reads {S : Type 0} (over : Executor S) (flash : List ℕ) (At : ℕ �
   pub same : (s s' : Registers) (t : S) (e : Effect) → s.sp ≡ s'.sp → over s t e ≡ over s' t e
   pub goes : (next : ℕ) (s : Registers) (t : S) → At s.sp t → over s t (go next s) ≡ Done (record s { pc = next }) t
   pub loads : (next rd a : ℕ) (s : Registers) (t : S) → At s.sp t → word a < flash_end → word a % 4 ≡ 0 →
-      over s t (loads next s rd unsigned a 4) ≡ Done (record s { r = slice_set s.r rd (flash_word flash (word a)); pc = next }) t
+      over s t (loads next s rd unsigned a 4)
+      ≡ Done (record s { r = slice_set s.r rd (flash_word flash (word a)); pc = next }) t
 
 -- An instruction that does the same whatever PC is.
 abbrev pub IgnoresPc : Instr → Type 0
@@ -93,7 +104,8 @@ Silent over fetch n s t s' t' = runs over fetch n s t ≡ Still s' t'
 
 -- A piece means its effect: from its place the machine comes, in fewer instructions than it costs, all of them silent and without a
 -- change of memory, to one whose step is that effect.
-pub record Means {S : Type 0} (over : Executor S) (fetch : ℕ → Fetched) (p : Places) (i : ℕ) (x : Piece) (s : Registers) (t : S) : Type 0 where
+pub record Means {S : Type 0} (over : Executor S) (fetch : ℕ → Fetched) (p : Places) (i : ℕ) (x : Piece) (s : Registers)
+    (t : S) : Type 0 where
   pub before : ℕ
   pub few : before < cost x
   pub last : Registers
@@ -101,7 +113,8 @@ pub record Means {S : Type 0} (over : Executor S) (fetch : ℕ → Fetched) (p :
   pub does : ran (over last t) last (fetch last.pc) ≡ stepped_at last.pc (over s t (piece_effect p i s x))
 
 -- From one state to another in at least and at most so many silent instructions.
-pub record ComesSilently {S : Type 0} (over : Executor S) (fetch : ℕ → Fetched) (least most : ℕ) (s : Registers) (t : S) (s' : Registers) (t' : S) : Type 0 where
+pub record ComesSilently {S : Type 0} (over : Executor S) (fetch : ℕ → Fetched) (least most : ℕ) (s : Registers) (t : S)
+    (s' : Registers) (t' : S) : Type 0 where
   pub count : ℕ
   pub some : least ≤ count
   pub few : count ≤ most

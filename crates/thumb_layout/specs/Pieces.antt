@@ -41,7 +41,8 @@ number_flags s value = if is_small value then nz s.flags value else s.flags
 abbrev pub piece_effect : Places → ℕ → Registers → Piece → Effect
 piece_effect p i s (Plain instr) = effect (p.behind i) s instr
 piece_effect p i s (Label label) = go (p.behind i) s
-piece_effect p i s (Go cond label) = if is_taken s.flags cond then go (p.at (p.label label)) (record s { lr = p.link i s.lr }) else go (p.behind i) s
+piece_effect p i s (Go cond label) =
+    if is_taken s.flags cond then go (p.at (p.label label)) (record s { lr = p.link i s.lr }) else go (p.behind i) s
 piece_effect p i s (CallTo function) = go (p.entry function) (record s { lr = word (p.behind i + 1) })
 piece_effect p i s (Number rd value) = puts_with (p.behind i) s rd value (number_flags s value)
 piece_effect p i s (Address rd what) = puts_with (p.behind i) s rd (p.word_of what) s.flags

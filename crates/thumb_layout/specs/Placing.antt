@@ -14,7 +14,9 @@ use Rattle.thumb_layout.specs.Cells.{pool_at, pools}
 
 -- How many wait, and that a pool of them reaches exactly where it ends in time.
 abbrev pub Counts : Waits → List Wait → Type 0
-Counts w waits = (w.count ≡ length waits) × ((start : ℕ) → reaches start waits ≡ (if w.count == 0 then true else if nat_lt w.latest_end (start + 4 * w.count) then false else true))
+Counts w waits =
+    (w.count ≡ length waits) × ((start : ℕ) → reaches start waits ≡ (if w.count == 0 then true
+    else if nat_lt w.latest_end (start + 4 * w.count) then false else true))
 
 abbrev pub place_of : Chunk → PieceOffsets
 place_of c = record { at = c.at; body = c.body }
@@ -25,7 +27,8 @@ chunk_pools c = pool_at (c.at + 2) c.before ++ pool_at c.behind c.after
 
 -- A pool stands before a piece that is entered at an address, where loads wait: one behind it would put an entry too far.
 abbrev pub is_late : Piece → ℕ → List Wait → ℕ → Bool
-is_late x form waits at = if reaches (pool_behind (goes_on x) (at + size x form)) (waits ++ loads_at x at) then false else true
+is_late x form waits at =
+    if reaches (pool_behind (goes_on x) (at + size x form)) (waits ++ loads_at x at) then false else true
 
 abbrev pub pools_before : Piece → ℕ → List Wait → ℕ → List ℕ
 pools_before x form waits at = if is_late x form waits at then pool_at (at + 2) waits else []

@@ -37,8 +37,10 @@ impl Cursor {
     fn lay_pool(&mut self, at: u32, pools: &mut Vec<u32>) -> Result<(), NoMemory>
         requires at { at < 2 ^ 23 }
         requires count { self.old.waits.count < 2 ^ 20 }
-        ensures at { (waits : List Wait) → Counts self.old.waits waits → OnOk result (self.new.at ≡ over_pool at waits) }
-        ensures pools { (waits : List Wait) → Counts self.old.waits waits → OnOk result (pools.new.items ≡ pools.old.items ++ pool_at at waits) }
+        ensures at { (waits : List Wait) → Counts self.old.waits waits
+            → OnOk result (self.new.at ≡ over_pool at waits) }
+        ensures pools { (waits : List Wait) → Counts self.old.waits waits
+            → OnOk result (pools.new.items ≡ pools.old.items ++ pool_at at waits) }
         ensures counts { Counts self.new.waits [] }
         ensures none { self.new.waits.count ≡ 0 }
         ensures latest { self.new.waits.latest_end ≡ 0 }
@@ -62,8 +64,10 @@ impl Cursor {
     fn enter(&mut self, piece: &Piece, form: u8, pools: &mut Vec<u32>) -> Result<(), NoMemory>
         requires at { self.old.at + 8 * self.old.waits.count < 2 ^ 20 }
         requires latest { self.old.waits.latest_end < 2 ^ 25 }
-        ensures entered { (waits : List Wait) → Counts self.old.waits waits → OnOk result (IsEntered piece.now form waits self.old.at self.new.at self.new.waits) }
-        ensures pools { (waits : List Wait) → Counts self.old.waits waits → OnOk result (pools.new.items ≡ pools.old.items ++ pools_before piece.now form waits self.old.at) }
+        ensures entered { (waits : List Wait) → Counts self.old.waits waits
+            → OnOk result (IsEntered piece.now form waits self.old.at self.new.at self.new.waits) }
+        ensures pools { (waits : List Wait) → Counts self.old.waits waits
+            → OnOk result (pools.new.items ≡ pools.old.items ++ pools_before piece.now form waits self.old.at) }
         ensures near { OnOk result (self.new.at ≤ self.old.at + 6 + 4 * self.old.waits.count) }
         ensures few { OnOk result (self.new.waits.count ≤ self.old.waits.count + 1) }
         ensures latest { OnOk result (self.new.waits.latest_end < 2 ^ 25) }
@@ -94,8 +98,10 @@ impl Cursor {
     ) -> Result<PieceOffsets, NoMemory>
         requires at { self.old.at + 8 * self.old.waits.count < 2 ^ 20 }
         requires latest { self.old.waits.latest_end < 2 ^ 25 }
-        ensures passed { (waits : List Wait) → Counts self.old.waits waits → IfOk result (λ place. IsPassed (chunk piece.now form waits self.old.at) place self.new.at self.new.waits) }
-        ensures pools { (waits : List Wait) → Counts self.old.waits waits → OnOk result (pools.new.items ≡ pools.old.items ++ chunk_pools (chunk piece.now form waits self.old.at)) }
+        ensures passed { (waits : List Wait) → Counts self.old.waits waits → IfOk result
+            (λ place. IsPassed (chunk piece.now form waits self.old.at) place self.new.at self.new.waits) }
+        ensures pools { (waits : List Wait) → Counts self.old.waits waits
+            → OnOk result (pools.new.items ≡ pools.old.items ++ chunk_pools (chunk piece.now form waits self.old.at)) }
         ensures latest { OnOk result (self.new.waits.latest_end < 2 ^ 25) }
     {
         let at = self.at;

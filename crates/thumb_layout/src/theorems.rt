@@ -35,7 +35,9 @@ pub fn fixes_are_what_is_open()
 /// A flash that has the code of sound pieces from a multiple of 4 on, with what was open in it, holds the pieces: what each then does
 /// over any memory that reads this flash is in `proofs/Laws.antt`. A sound instruction does the same wherever it stands.
 pub fn laid_code_holds()
-    ensures holds { (flash : List ℕ) (base stack_base : ℕ) (entry : ℕ → ℕ) (word_of : What → ℕ) (xs : List Piece) → IsSound xs → HasWords xs → is_base stack_base ≡ true → base % 4 ≡ 0
-        → base + length (laid xs).bytes ≤ flash_end → HasCode flash base entry word_of (laid xs) → Holds (fetched flash stack_base) flash (places base entry word_of xs) xs }
+    ensures holds { (flash : List ℕ) (base stack_base : ℕ) (entry : ℕ → ℕ) (word_of : What → ℕ) (xs : List Piece)
+        → IsSound xs → HasWords xs → is_base stack_base ≡ true → base % 4 ≡ 0
+        → base + length (laid xs).bytes ≤ flash_end → HasCode flash base entry word_of (laid xs)
+        → Holds (fetched flash stack_base) flash (places base entry word_of xs) xs }
     ensures anywhere { (instr : Instr) → Fits instr → is_bound_to_place instr ≡ false → IgnoresPc instr }
 {}

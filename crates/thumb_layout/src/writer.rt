@@ -171,7 +171,8 @@ impl Laid {
     fn put_load(&mut self, rd: u8, entry_at: u64) -> Result<(), NoMemory>
         requires at { length self.old.bytes < 2 ^ 20 }
         requires fits { Fits (LdrPc rd ((entry_at - counts_from (length self.old.bytes)) / 4)) }
-        ensures { OnOk result (self.new ≡ with_cell self.old (Ins (LdrPc rd ((entry_at - counts_from (length self.old.bytes)) / 4)))) }
+        ensures { OnOk result
+            (self.new ≡ with_cell self.old (Ins (LdrPc rd ((entry_at - counts_from (length self.old.bytes)) / 4)))) }
     {
         let at = self.bytes.len() as u64;
         let words = entry_at.saturating_sub((at + 4) / 4 * 4) / 4;
@@ -187,7 +188,8 @@ impl Laid {
         requires to { to < 2 ^ 20 }
         requires sound { IsSoundPiece piece.now }
         requires fits { CellsFit (piece_cells (λ label. to) piece.now form (length self.old.bytes) entry_at) }
-        ensures { OnOk result (self.new ≡ with_cells self.old (piece_cells (λ label. to) piece.now form (length self.old.bytes) entry_at)) }
+        ensures { OnOk result (self.new
+            ≡ with_cells self.old (piece_cells (λ label. to) piece.now form (length self.old.bytes) entry_at)) }
     {
         match *piece {
             Piece::Plain(instr) => self.put_instr(instr),
@@ -266,7 +268,8 @@ impl Writer {
         requires at { length self.old.laid.bytes < 2 ^ 20 }
         requires few { length self.old.waiting.items < 2 ^ 18 }
         requires pools { self.old.pools < 2 ^ 20 }
-        ensures laid { OnOk result (self.new.laid ≡ with_cells self.old.laid (entry_pool (length self.old.laid.bytes) self.old.waiting.items)) }
+        ensures laid { OnOk result (self.new.laid
+            ≡ with_cells self.old.laid (entry_pool (length self.old.laid.bytes) self.old.waiting.items)) }
         ensures waiting { OnOk result (self.new.waiting.items ≡ []) }
         ensures pools { OnOk result (self.new.pools ≡ self.old.pools + pools_in self.old.waiting.items) }
     {
@@ -286,9 +289,12 @@ impl Writer {
         requires few { length self.old.waiting.items < 2 ^ 18 }
         requires pools { self.old.pools < 2 ^ 20 }
         requires fits { length self.old.laid.bytes ≢ body → Fits (B (offset (length self.old.laid.bytes) body)) }
-        ensures laid { OnOk result (self.new.laid ≡ with_cells self.old.laid (entered_cells (length self.old.laid.bytes) body self.old.waiting.items)) }
-        ensures waiting { OnOk result (self.new.waiting.items ≡ (if length self.old.laid.bytes == body then self.old.waiting.items else [])) }
-        ensures pools { OnOk result (self.new.pools ≡ self.old.pools + (if length self.old.laid.bytes == body then 0 else pools_in self.old.waiting.items)) }
+        ensures laid { OnOk result (self.new.laid
+            ≡ with_cells self.old.laid (entered_cells (length self.old.laid.bytes) body self.old.waiting.items)) }
+        ensures waiting { OnOk result
+            (self.new.waiting.items ≡ (if length self.old.laid.bytes == body then self.old.waiting.items else [])) }
+        ensures pools { OnOk result (self.new.pools ≡ self.old.pools + (if length self.old.laid.bytes == body then 0
+            else pools_in self.old.waiting.items)) }
     {
         let at = self.laid.bytes.len() as u32;
         if at == body {
@@ -305,9 +311,12 @@ impl Writer {
         requires to { to < 2 ^ 20 }
         requires few { length self.old.waiting.items < 2 ^ 18 }
         requires sound { IsSoundPiece piece.now }
-        requires fits { CellsFit (piece_cells (λ label. to) piece.now form (length self.old.laid.bytes) (pool_at + 4 * length self.old.waiting.items)) }
-        ensures laid { OnOk result (self.new.laid ≡ with_cells self.old.laid (piece_cells (λ label. to) piece.now form (length self.old.laid.bytes) (pool_at + 4 * length self.old.waiting.items))) }
-        ensures waiting { OnOk result ((at : ℕ) → self.new.waiting.items ≡ self.old.waiting.items ++ entries (loads_at piece.now at)) }
+        requires fits { CellsFit (piece_cells (λ label. to) piece.now form (length self.old.laid.bytes)
+            (pool_at + 4 * length self.old.waiting.items)) }
+        ensures laid { OnOk result (self.new.laid ≡ with_cells self.old.laid (piece_cells (λ label. to) piece.now form
+            (length self.old.laid.bytes) (pool_at + 4 * length self.old.waiting.items))) }
+        ensures waiting { OnOk result
+            ((at : ℕ) → self.new.waiting.items ≡ self.old.waiting.items ++ entries (loads_at piece.now at)) }
         ensures pools { OnOk result (self.new.pools ≡ self.old.pools) }
     {
         let entry_at = u64::from(pool_at) + 4 * self.waiting.len() as u64;

@@ -9,7 +9,8 @@ use Rattle.thumb_switch.specs.Switching.{over}
 -- What was read tells what is fetched there, whatever stands in the two other parts; nothing is told where nothing was read.
 abbrev pub TellsFetch : List ℕ → ℕ → Option (Instr × Bool) → Type 0
 TellsFetch code at None = Unit {0}
-TellsFetch code at (Some x) = ((stack words : List ℕ) → fetched_in (over code stack words) at ≡ Found x.0 (behind at x.1)) × Fits x.0
+TellsFetch code at (Some x) =
+    ((stack words : List ℕ) → fetched_in (over code stack words) at ≡ Found x.0 (behind at x.1)) × Fits x.0
 
 -- each slot does, of the halfword at its place
 abbrev pub AreRead : List ℕ → List (Option (Instr × Bool)) → Type 0

@@ -55,7 +55,8 @@ impl Copier {
         requires keyed { IfSome runtime.old.running (λ t. IsSome t.key) }
         requires inside { IsInside runtime.old.machine.registers.sp runtime.old.machine.memory.base }
         requires early { now ≤ end_limit }
-        ensures blocked { (key : ℕ) (t : Turning) → runtime.old.running ≡ Some t → t.key ≡ Some key → Blocked key t why now runtime.old runtime.new }
+        ensures blocked { (key : ℕ) (t : Turning) → runtime.old.running ≡ Some t → t.key ≡ Some key
+            → Blocked key t why now runtime.old runtime.new }
         ensures counted { self.new ≡ count_behind self.old (routine_steps (depth runtime.old.machine)) }
     {
         self.switch.block(runtime, why, now);
@@ -70,7 +71,8 @@ impl Copier {
         ensures same { OnFalse result (runtime.new ≡ runtime.old) }
         ensures still { OnFalse result (self.new ≡ self.old) }
         ensures some { OnTrue result (Resumed runtime.old runtime.new) }
-        ensures counted { (key : ℕ) → Leads key runtime.old.lists.ready → self.new ≡ count_behind self.old (routine_steps (length (kept_at runtime.old.pool key).words)) }
+        ensures counted { (key : ℕ) → Leads key runtime.old.lists.ready
+            → self.new ≡ count_behind self.old (routine_steps (length (kept_at runtime.old.pool key).words)) }
     {
         self.switch.resume(runtime)
     }

@@ -99,7 +99,8 @@ fn stack_word(machine: &Machine, address: u32, bytes: u8, word: u32) -> u32
     requires aligned { address % bytes ≡ 0 }
     requires low { stack_at ≤ address }
     requires high { address < ram_end }
-    ensures { result ≡ merged_in (record { at = address; bytes = bytes }) word (word_in machine.now.memory.stack stack_at address) }
+    ensures { result
+        ≡ merged_in (record { at = address; bytes = bytes }) word (word_in machine.now.memory.stack stack_at address) }
 {
     if bytes == 4 {
         return word;
@@ -116,7 +117,8 @@ fn record_word(desk: &Desk, at: usize, address: u32, bytes: u8, word: u32) -> u3
     requires aligned { address % bytes ≡ 0 }
     requires live { ContainsKey desk.now.runtime.now.pool desk.now.key }
     requires there { at < length (words_of desk.now.runtime.now desk.now.key) }
-    ensures { result ≡ merged_in (record { at = address; bytes = bytes }) word (slice_index (words_of desk.now.runtime.now desk.now.key) at) }
+    ensures { result ≡ merged_in (record { at = address; bytes = bytes }) word
+        (slice_index (words_of desk.now.runtime.now desk.now.key) at) }
 {
     if bytes == 4 {
         return word;
@@ -131,7 +133,8 @@ fn put_stack(machine: &mut Machine, address: u32, bytes: u8, word: u32)
     requires aligned { address % bytes ≡ 0 }
     requires low { stack_at ≤ address }
     requires high { address < ram_end }
-    ensures after { machine.new ≡ with_stack machine.old (replaced machine.old.memory.stack stack_at (record { at = address; bytes = bytes }) word) }
+    ensures after { machine.new ≡ with_stack machine.old
+        (replaced machine.old.memory.stack stack_at (record { at = address; bytes = bytes }) word) }
     ensures whole { length machine.old.memory.stack ≡ 1024 }
 {
     let _ = machine.stack();

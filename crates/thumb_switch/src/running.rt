@@ -16,7 +16,8 @@ use thumb_code::{Instr, Registers, decode, is_wide};
 
 /// The halfword at an address. None exactly where it isn't in the three parts.
 fn half(desk: &mut Desk, at: u32) -> Option<u16>
-    ensures value { MatchOption result (has_half (on_desk desk.old) at ≡ false) (λ h. (has_half (on_desk desk.old) at ≡ true) × (h ≡ half_in (on_desk desk.old) at)) }
+    ensures value { MatchOption result (has_half (on_desk desk.old) at ≡ false)
+        (λ h. (has_half (on_desk desk.old) at ≡ true) × (h ≡ half_in (on_desk desk.old) at)) }
     ensures same { desk.new ≡ desk.old }
 {
     match desk.check(at, 2, false) {

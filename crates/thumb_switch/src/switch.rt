@@ -67,7 +67,8 @@ fn block_by(bytes: &[u8], slots: &[Slot], runtime: &mut Runtime, why: Why, now: 
     requires keyed { IfSome runtime.old.running (λ t. IsSome t.key) }
     requires inside { IsInside runtime.old.machine.registers.sp runtime.old.machine.memory.base }
     requires early { now ≤ end_limit }
-    ensures any { (key : ℕ) (t : Turning) (h : Held) → runtime.old.running ≡ Some t → t.key ≡ Some key → h.bytes ≡ bytes.now → BlockedBy key t why now h (counted h result) runtime.old runtime.new }
+    ensures any { (key : ℕ) (t : Turning) (h : Held) → runtime.old.running ≡ Some t → t.key ≡ Some key
+        → h.bytes ≡ bytes.now → BlockedBy key t why now h (counted h result) runtime.old runtime.new }
     ensures most { result ≤ most_instructions (depth runtime.old.machine) }
     ensures small { result ≤ 8232 }
     ensures stack { length runtime.old.machine.memory.stack ≡ 1024 }
@@ -153,9 +154,12 @@ impl Switch {
         requires keyed { IfSome runtime.old.running (λ t. IsSome t.key) }
         requires inside { IsInside runtime.old.machine.registers.sp runtime.old.machine.memory.base }
         requires early { now ≤ end_limit }
-        ensures any { (key : ℕ) (t : Turning) → runtime.old.running ≡ Some t → t.key ≡ Some key → BlockedBy key t why now self.old self.new runtime.old runtime.new }
-        ensures routine { self.old.bytes ≡ routine_bytes → (key : ℕ) (t : Turning) → runtime.old.running ≡ Some t → t.key ≡ Some key → Blocked key t why now runtime.old runtime.new }
-        ensures exact { self.old.bytes ≡ routine_bytes → self.new ≡ counted self.old (routine_steps (depth runtime.old.machine)) }
+        ensures any { (key : ℕ) (t : Turning) → runtime.old.running ≡ Some t → t.key ≡ Some key
+            → BlockedBy key t why now self.old self.new runtime.old runtime.new }
+        ensures routine { self.old.bytes ≡ routine_bytes → (key : ℕ) (t : Turning) → runtime.old.running ≡ Some t
+            → t.key ≡ Some key → Blocked key t why now runtime.old runtime.new }
+        ensures exact { self.old.bytes ≡ routine_bytes
+            → self.new ≡ counted self.old (routine_steps (depth runtime.old.machine)) }
         ensures bytes { self.new.bytes ≡ self.old.bytes }
         ensures most { self.new.count ≤ self.old.count + most_instructions (depth runtime.old.machine) }
         ensures few { self.new.count ≤ self.old.count + 8232 }
@@ -174,9 +178,11 @@ impl Switch {
         ensures still { OnFalse result (self.new ≡ self.old) }
         ensures any { OnTrue result (ResumedBy self.old self.new runtime.old runtime.new) }
         ensures routine { self.old.bytes ≡ routine_bytes → OnTrue result (Resumed runtime.old runtime.new) }
-        ensures exact { self.old.bytes ≡ routine_bytes → (key : ℕ) → Leads key runtime.old.lists.ready → self.new ≡ counted self.old (routine_steps (length (kept_at runtime.old.pool key).words)) }
+        ensures exact { self.old.bytes ≡ routine_bytes → (key : ℕ) → Leads key runtime.old.lists.ready
+            → self.new ≡ counted self.old (routine_steps (length (kept_at runtime.old.pool key).words)) }
         ensures bytes { self.new.bytes ≡ self.old.bytes }
-        ensures most { (key : ℕ) → Leads key runtime.old.lists.ready → self.new.count ≤ self.old.count + most_instructions (length (kept_at runtime.old.pool key).words) }
+        ensures most { (key : ℕ) → Leads key runtime.old.lists.ready
+            → self.new.count ≤ self.old.count + most_instructions (length (kept_at runtime.old.pool key).words) }
         ensures few { self.new.count ≤ self.old.count + 8232 }
     {
         match runtime.next_key() {

@@ -8,4 +8,5 @@ ReadsUpTo most left left' = (bytes : List ℕ) × Consumes left left' bytes × (
 
 -- so many bytes were read, and stand behind what was gathered before
 abbrev pub Gathers : Option (List ℕ) → Option (List ℕ) → ℕ → (gathered gathered' : List ℕ) → Type 0
-Gathers left left' count gathered gathered' = (bytes : List ℕ) × Consumes left left' bytes × (length bytes ≡ count) × (gathered' ≡ gathered ++ bytes)
+Gathers left left' count gathered gathered' =
+    (bytes : List ℕ) × Consumes left left' bytes × (length bytes ≡ count) × (gathered' ≡ gathered ++ bytes)

@@ -81,7 +81,8 @@ impl<R: Files + Drop> Folder for DiskFolder<R> {
 
     fn fetch(&mut self, alloc: Global, name: &str, limit: usize) -> Result<Found, FetchFault>
         ensures within { IfOk result (λ found. IsWithinLimit limit found) }
-        ensures noted { HasNoted (names_in self.old.asked) (names_in self.new.asked) name.now (IsErrOf result FetchFault.NoMemory) }
+        ensures noted { HasNoted (names_in self.old.asked) (names_in self.new.asked) name.now
+            (IsErrOf result FetchFault.NoMemory) }
         ensures unopened { self.new.asked ≡ self.old.asked → self.new.met ≡ None }
         ensures missing { (result ≡ Ok Found.Missing) ↔ (self.new.met ≡ Some ErrorKind.NotFound) }
         ensures later { self.old.faults ≤ self.new.faults }

@@ -27,8 +27,10 @@ impl Files {
     /// Adds a file, in the place of one of that name.
     pub fn add(&mut self, alloc: Global, name: &str, bytes: &[u8]) -> Result<(), NoMemory>
         ensures added { OnOk result (bytes_named self.new.by_name name.now ≡ Some bytes.now) }
-        ensures others { (file : List ℕ) → file ≢ name.now → bytes_named self.new.by_name file ≡ bytes_named self.old.by_name file }
-        ensures unchanged { OnErr result (bytes_named self.new.by_name name.now ≡ bytes_named self.old.by_name name.now) }
+        ensures others { (file : List ℕ) → file ≢ name.now
+            → bytes_named self.new.by_name file ≡ bytes_named self.old.by_name file }
+        ensures unchanged { OnErr result
+            (bytes_named self.new.by_name name.now ≡ bytes_named self.old.by_name name.now) }
     {
         let (Ok(name), Ok(bytes)) = (String::from_str(alloc, name), Vec::from_slice(alloc, bytes))
         else {

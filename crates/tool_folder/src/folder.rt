@@ -43,7 +43,8 @@ pub trait Folder {
     /// content of the folder stays. `Failed` comes only where the count of faults rose. Whatever the answer, the name is noted; but for `NoMemory`,
     /// where there may have been none for that.
     fn fetch(&mut self, alloc: Global, name: &str, limit: usize) -> Result<Found, FetchFault>
-        ensures content { IfOk result (λ found. ForSome (holds self.old name.now) (λ content. IsFoundOf content limit found)) }
+        ensures content { IfOk result
+            (λ found. ForSome (holds self.old name.now) (λ content. IsFoundOf content limit found)) }
         ensures within { IfOk result (λ found. IsWithinLimit limit found) }
         ensures stays { (file : List ℕ) → holds self.new file ≡ holds self.old file }
         ensures noted { HasNoted (asked self.old) (asked self.new) name.now (IsErrOf result FetchFault.NoMemory) }

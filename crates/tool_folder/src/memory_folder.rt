@@ -42,8 +42,10 @@ impl MemoryFolder {
     /// Adds a file, in the place of one of that name. After `NoMemory` the folder is unchanged.
     pub fn add(&mut self, alloc: Global, name: &str, bytes: &[u8]) -> Result<(), NoMemory>
         ensures added { OnOk result (bytes_named self.new.files.by_name name.now ≡ Some bytes.now) }
-        ensures others { (file : List ℕ) → file ≢ name.now → bytes_named self.new.files.by_name file ≡ bytes_named self.old.files.by_name file }
-        ensures unchanged { OnErr result (bytes_named self.new.files.by_name name.now ≡ bytes_named self.old.files.by_name name.now) }
+        ensures others { (file : List ℕ) → file ≢ name.now
+            → bytes_named self.new.files.by_name file ≡ bytes_named self.old.files.by_name file }
+        ensures unchanged { OnErr result
+            (bytes_named self.new.files.by_name name.now ≡ bytes_named self.old.files.by_name name.now) }
         ensures asked { self.new.asked ≡ self.old.asked }
         ensures failing { self.new.failing ≡ self.old.failing }
         ensures calls { self.new.calls ≡ self.old.calls }
@@ -73,15 +75,20 @@ impl Folder for MemoryFolder {
     ghost faults = { λ folder. folder.faults };
 
     fn fetch(&mut self, alloc: Global, name: &str, limit: usize) -> Result<Found, FetchFault>
-        ensures content { IfOk result (λ found. ForSome (Some (bytes_named self.old.files.by_name name.now)) (λ content. IsFoundOf content limit found)) }
+        ensures content { IfOk result (λ found.
+            ForSome (Some (bytes_named self.old.files.by_name name.now)) (λ content. IsFoundOf content limit found)) }
         ensures within { IfOk result (λ found. IsWithinLimit limit found) }
-        ensures stays { (file : List ℕ) → Some (bytes_named self.new.files.by_name file) ≡ Some (bytes_named self.old.files.by_name file) }
-        ensures noted { HasNoted (names_in self.old.asked) (names_in self.new.asked) name.now (IsErrOf result FetchFault.NoMemory) }
+        ensures stays { (file : List ℕ)
+            → Some (bytes_named self.new.files.by_name file) ≡ Some (bytes_named self.old.files.by_name file) }
+        ensures noted { HasNoted (names_in self.old.asked) (names_in self.new.asked) name.now
+            (IsErrOf result FetchFault.NoMemory) }
         ensures later { self.old.faults ≤ self.new.faults }
         ensures failed { IsErrOf result FetchFault.Failed → Rose self.old.faults self.new.faults }
         ensures failing { self.new.failing ≡ self.old.failing }
         ensures calls { self.new.calls ≡ one_more self.old.calls }
-        ensures exact { IsErrOf result FetchFault.Failed ↔ ((names_in self.new.asked ≡ names_in self.old.asked ++ name.now ∷ []) × Contains self.old.failing self.new.calls) }
+        ensures exact { IsErrOf result FetchFault.Failed
+            ↔ ((names_in self.new.asked ≡ names_in self.old.asked ++ name.now ∷ [])
+            × Contains self.old.failing self.new.calls) }
         ensures counted { IsErrOf result FetchFault.Failed → self.new.faults ≡ one_more self.old.faults }
         ensures uncounted { (IsErrOf result FetchFault.Failed → ⊥) → self.new.faults ≡ self.old.faults }
     {

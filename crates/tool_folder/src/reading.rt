@@ -28,7 +28,8 @@ fn too_many_reads() -> io::Error
 fn read_piece<F: Read>(file: &mut F, piece: &mut [u8]) -> io::Result<usize>
     ensures bound { ReadsAtMost result piece.new }
     ensures within { length piece.new ≡ length piece.old }
-    ensures read { IfOk result (λ count. Consumes (F.remaining file.old) (F.remaining file.new) (take count piece.new)) }
+    ensures read { IfOk result
+        (λ count. Consumes (F.remaining file.old) (F.remaining file.new) (take count piece.new)) }
     ensures end { IfOk result (λ count. count ≡ 0 → 0 < length piece.old → IsAtEnd (F.remaining file.new)) }
     ensures nothing { OnErr result (Keeps (F.remaining file.old) (F.remaining file.new)) }
     ensures retried { IfErr result (λ error. error_kind error ≢ ErrorKind.Interrupted) }
@@ -47,7 +48,8 @@ fn read_piece<F: Read>(file: &mut F, piece: &mut [u8]) -> io::Result<usize>
 fn read_more<F: Read>(file: &mut F, piece: &mut [u8], whole: &mut Vec<u8>) -> io::Result<usize>
     requires { 0 < length piece.now }
     ensures read { ReadsUpTo (length piece.old) (F.remaining file.old) (F.remaining file.new) }
-    ensures gathered { IfOk result (λ count. Gathers (F.remaining file.old) (F.remaining file.new) count whole.old.items whole.new.items) }
+    ensures gathered { IfOk result
+        (λ count. Gathers (F.remaining file.old) (F.remaining file.new) count whole.old.items whole.new.items) }
     ensures within { length piece.new ≡ length piece.old }
     ensures few { IfOk result (λ count. count ≤ length piece.old) }
     ensures end { IfOk result (λ count. count ≡ 0 → IsAtEnd (F.remaining file.new)) }

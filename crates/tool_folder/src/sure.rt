@@ -32,8 +32,10 @@ impl SureFolder {
     /// Adds a file, in the place of one of that name. After `NoMemory` the folder is unchanged.
     pub fn add(&mut self, alloc: Global, name: &str, bytes: &[u8]) -> Result<(), NoMemory>
         ensures added { OnOk result (bytes_named self.new.files.by_name name.now ≡ Some bytes.now) }
-        ensures others { (file : List ℕ) → file ≢ name.now → bytes_named self.new.files.by_name file ≡ bytes_named self.old.files.by_name file }
-        ensures unchanged { OnErr result (bytes_named self.new.files.by_name name.now ≡ bytes_named self.old.files.by_name name.now) }
+        ensures others { (file : List ℕ) → file ≢ name.now
+            → bytes_named self.new.files.by_name file ≡ bytes_named self.old.files.by_name file }
+        ensures unchanged { OnErr result
+            (bytes_named self.new.files.by_name name.now ≡ bytes_named self.old.files.by_name name.now) }
         ensures asked { self.new.asked ≡ self.old.asked }
     {
         self.files.add(alloc, name, bytes)
@@ -52,10 +54,13 @@ impl Folder for SureFolder {
     ghost faults = { λ folder. 0 };
 
     fn fetch(&mut self, alloc: Global, name: &str, limit: usize) -> Result<Found, FetchFault>
-        ensures content { IfOk result (λ found. ForSome (Some (bytes_named self.old.files.by_name name.now)) (λ content. IsFoundOf content limit found)) }
+        ensures content { IfOk result (λ found.
+            ForSome (Some (bytes_named self.old.files.by_name name.now)) (λ content. IsFoundOf content limit found)) }
         ensures within { IfOk result (λ found. IsWithinLimit limit found) }
-        ensures stays { (file : List ℕ) → Some (bytes_named self.new.files.by_name file) ≡ Some (bytes_named self.old.files.by_name file) }
-        ensures noted { HasNoted (names_in self.old.asked) (names_in self.new.asked) name.now (IsErrOf result FetchFault.NoMemory) }
+        ensures stays { (file : List ℕ)
+            → Some (bytes_named self.new.files.by_name file) ≡ Some (bytes_named self.old.files.by_name file) }
+        ensures noted { HasNoted (names_in self.old.asked) (names_in self.new.asked) name.now
+            (IsErrOf result FetchFault.NoMemory) }
         ensures later { 0 ≤ 0 }
         ensures failed { IsErrOf result FetchFault.Failed → ⊥ }
     {

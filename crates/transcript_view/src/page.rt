@@ -62,8 +62,10 @@ pub fn view_page<K: Sink>(
     input: &[u8],
     out: &mut K,
 ) -> Result<(), ViewFault>
-    ensures whole { OnOk result (Took (K.taken out.old) (K.taken out.new) (spec.page_view head.now tail.now input.now)) }
-    ensures part { OnErr result (TookPart (K.taken out.old) (K.taken out.new) (spec.page_view head.now tail.now input.now)) }
+    ensures whole { OnOk result
+        (Took (K.taken out.old) (K.taken out.new) (spec.page_view head.now tail.now input.now)) }
+    ensures part { OnErr result
+        (TookPart (K.taken out.old) (K.taken out.new) (spec.page_view head.now tail.now input.now)) }
     ensures failed { IsErrOf result ViewFault.Sink → Rose (K.faults out.old) (K.faults out.new) }
     ensures untouched { IsErrOf result ViewFault.NoMemory → out.new ≡ out.old }
 {

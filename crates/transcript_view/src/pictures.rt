@@ -114,7 +114,8 @@ fn push_at_right(out: &mut Vec<u8>, text: &[u8]) -> Result<(), AllocError>
 
 /// Adds the moments of pictures side by side.
 fn push_moments(out: &mut Vec<u8>, lines: &[&[u8]]) -> Result<(), AllocError>
-    ensures { OnOk result (out.new.items ≡ out.old.items ++ flat_map (λ line. spec.at_right (line_lead line)) (map (λ line. line.now) lines.now)) }
+    ensures { OnOk result (out.new.items
+        ≡ out.old.items ++ flat_map (λ line. spec.at_right (line_lead line)) (map (λ line. line.now) lines.now)) }
 {
     for line in lines {
         push_at_right(out, lead(line))?;
@@ -124,7 +125,8 @@ fn push_moments(out: &mut Vec<u8>, lines: &[&[u8]]) -> Result<(), AllocError>
 
 /// Adds what stands over pictures side by side.
 fn push_heading(out: &mut Vec<u8>, lines: &[&[u8]]) -> Result<(), AllocError>
-    ensures { OnOk result (out.new.items ≡ out.old.items ++ (spec.heading (map (λ line. line.now) lines.now) ++ 10 ∷ [])) }
+    ensures { OnOk result
+        (out.new.items ≡ out.old.items ++ (spec.heading (map (λ line. line.now) lines.now) ++ 10 ∷ [])) }
 {
     push_moments(out, lines)?;
     out.extend_from_slice(b" ms")?;
@@ -173,7 +175,8 @@ fn push_squares_row(out: &mut Vec<u8>, r: usize, lines: &[&[u8]]) -> Result<(), 
 /// Adds such a row and its line's end.
 fn push_squares_line(out: &mut Vec<u8>, r: usize, lines: &[&[u8]]) -> Result<(), AllocError>
     requires { r < 5 }
-    ensures { OnOk result (out.new.items ≡ out.old.items ++ (spec.squares_row r (map (λ line. line.now) lines.now) ++ 10 ∷ [])) }
+    ensures { OnOk result
+        (out.new.items ≡ out.old.items ++ (spec.squares_row r (map (λ line. line.now) lines.now) ++ 10 ∷ [])) }
 {
     push_squares_row(out, r, lines)?;
     out.push(b'\n')?;
@@ -182,7 +185,8 @@ fn push_squares_line(out: &mut Vec<u8>, r: usize, lines: &[&[u8]]) -> Result<(),
 
 /// Adds the heading of pictures side by side and their rows.
 fn push_picture_rows(out: &mut Vec<u8>, lines: &[&[u8]]) -> Result<(), AllocError>
-    ensures { OnOk result (out.new.items ≡ out.old.items ++ text_of_rows (spec.picture_rows_of (map (λ line. line.now) lines.now))) }
+    ensures { OnOk result
+        (out.new.items ≡ out.old.items ++ text_of_rows (spec.picture_rows_of (map (λ line. line.now) lines.now))) }
 {
     push_heading(out, lines)?;
     push_squares_line(out, 0, lines)?;
@@ -195,7 +199,8 @@ fn push_picture_rows(out: &mut Vec<u8>, lines: &[&[u8]]) -> Result<(), AllocErro
 
 /// Adds the rows of pictures side by side.
 pub fn push_pictures(out: &mut Vec<u8>, lines: &[&[u8]]) -> Result<(), AllocError>
-    ensures { OnOk result (out.new.items ≡ out.old.items ++ text_of_rows (spec.picture_rows (map (λ line. line.now) lines.now))) }
+    ensures { OnOk result
+        (out.new.items ≡ out.old.items ++ text_of_rows (spec.picture_rows (map (λ line. line.now) lines.now))) }
 {
     if lines.is_empty() {
         return Ok(());

@@ -42,7 +42,8 @@ fn push_told(
     line: &[u8],
     explanation: Option<&[u8]>,
 ) -> Result<(), AllocError>
-    ensures { OnOk result (out.new.items ≡ out.old.items ++ text_of_rows (told_rows notes.now line.now (option_map (λ text. text.now) explanation.entry))) }
+    ensures { OnOk result (out.new.items ≡ out.old.items ++ text_of_rows
+        (told_rows notes.now line.now (option_map (λ text. text.now) explanation.entry))) }
 {
     push_literal(out, line)?;
     match explanation {
@@ -84,8 +85,10 @@ fn push_line<'a>(
     most: usize,
     line: &'a [u8],
 ) -> Result<(), AllocError>
-    ensures { (lines : List (List ℕ)) → OnOk result (out.new.items ++ text_of_rows (rows_from notes.now below.now most (map (λ it. it.now) waiting.new.items) lines)
-        ≡ out.old.items ++ text_of_rows (rows_from notes.now below.now most (map (λ it. it.now) waiting.old.items) (line.entry.now ∷ lines))) }
+    ensures { (lines : List (List ℕ)) → OnOk result
+        (out.new.items ++ text_of_rows (rows_from notes.now below.now most (map (λ it. it.now) waiting.new.items) lines)
+        ≡ out.old.items ++ text_of_rows
+        (rows_from notes.now below.now most (map (λ it. it.now) waiting.old.items) (line.entry.now ∷ lines))) }
 {
     if shows_picture(line) {
         waiting.push(line)?;
@@ -135,8 +138,10 @@ pub fn view_text<K: Sink>(
     width: usize,
     out: &mut K,
 ) -> Result<(), ViewFault>
-    ensures whole { OnOk result (Took (K.taken out.old) (K.taken out.new) (text_view notes.now below.now width input.now)) }
-    ensures part { OnErr result (TookPart (K.taken out.old) (K.taken out.new) (text_view notes.now below.now width input.now)) }
+    ensures whole { OnOk result
+        (Took (K.taken out.old) (K.taken out.new) (text_view notes.now below.now width input.now)) }
+    ensures part { OnErr result
+        (TookPart (K.taken out.old) (K.taken out.new) (text_view notes.now below.now width input.now)) }
     ensures failed { IsErrOf result ViewFault.Sink → Rose (K.faults out.old) (K.faults out.new) }
     ensures untouched { IsErrOf result ViewFault.NoMemory → out.new ≡ out.old }
 {

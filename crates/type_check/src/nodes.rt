@@ -131,7 +131,8 @@ fn is_callee(role: Role, part: Part) -> bool
 fn part_seen(context: &Context, role: Role, part: Part, at: u32) -> Result<Seen, Refused>
     ensures found { Finds result (node.own_part context.now.tables.now
         (naming context.now) context.now.known.now role part at) }
-    ensures seen { IfOk result (λ s. s ≡ record { kind = rule.part_kind context.now.known.now part; part = Some part }) }
+    ensures seen { IfOk result
+        (λ s. s ≡ record { kind = rule.part_kind context.now.known.now part; part = Some part }) }
 {
     let kind = part_kind(context.known, part);
     if !is_callee(role, part) {

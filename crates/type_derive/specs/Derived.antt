@@ -83,7 +83,8 @@ abbrev pub Within : List (Option StaticType) → List (Option StaticType) → Ty
 Within xs ys = (d : ℕ) → Less (at xs d) (at ys d)
 
 -- the least of the tables that meet the rules
-pub record IsLeast (rule : List (Option StaticType) → ℕ → Option StaticType) (kinds : List (Option StaticType)) : Type 0 where
+pub record IsLeast (rule : List (Option StaticType) → ℕ → Option StaticType)
+    (kinds : List (Option StaticType)) : Type 0 where
   pub solves : Solves rule kinds
   pub least : (others : List (Option StaticType)) → length others ≡ length kinds → Solves rule others
       → Within kinds others

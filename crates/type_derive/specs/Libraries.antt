@@ -55,5 +55,6 @@ pub record IsLibrary (tables : Tables) (library text : Program) (kinds : List (O
   -- each row of the board's table that is a function of the library is one of it that takes and gives the same
   pub rows : (call : BoardCall) (f : ℕ) → (row_of call).action ≡ board.Library f
       → (r : TypedRoutine)
-      × (entry (library_made tables (all_names library text) (known library text kinds) (numbering (library ++ text)) 0 0 library) f ≡ Some r)
+      × (entry (library_made tables (all_names library text) (known library text kinds)
+      (numbering (library ++ text)) 0 0 library) f ≡ Some r)
       × (r.params ≡ taken (row_of call).takes) × (r.gives ≡ (row_of call).gives)

@@ -19,9 +19,11 @@ use Rattle.sts_prelude.specs.declared.text.TheConstants.{LIBRARY}
 -- the names of the library's text in the order in which they first appear, and its one text
 abbrev pub first : Tables
 first = record {
-  names = codes "function" ∷ codes "$showLeds" ∷ codes "f" ∷ codes "number" ∷ codes "void" ∷ codes "$show" ∷ codes "basic" ∷ codes "pause"
-      ∷ codes "$showNumber" ∷ codes "n" ∷ codes "let" ∷ codes "i" ∷ codes "g" ∷ codes "$numberGlyph" ∷ codes "while" ∷ codes "$showString"
-      ∷ codes "s" ∷ codes "string" ∷ codes "$textGlyph" ∷ codes "$writeLine" ∷ codes "serial" ∷ codes "writeString" ∷ codes "$abs" ∷ codes "return"
+  names =
+      codes "function" ∷ codes "$showLeds" ∷ codes "f" ∷ codes "number" ∷ codes "void" ∷ codes "$show" ∷ codes "basic"
+      ∷ codes "pause" ∷ codes "$showNumber" ∷ codes "n" ∷ codes "let" ∷ codes "i" ∷ codes "g" ∷ codes "$numberGlyph"
+      ∷ codes "while" ∷ codes "$showString" ∷ codes "s" ∷ codes "string" ∷ codes "$textGlyph" ∷ codes "$writeLine"
+      ∷ codes "serial" ∷ codes "writeString" ∷ codes "$abs" ∷ codes "return"
       ∷ codes "$min" ∷ codes "a" ∷ codes "b" ∷ codes "$max" ∷ [];
   texts = (13 ∷ 10 ∷ []) ∷ [];
 }
@@ -58,7 +60,8 @@ TypedLibraryIsLight =
     → IsDistinct first.names → IsDistinct first.texts
     → IsTokenization first LIBRARY.now tokens
     → AreDerived (record { names = first.names ++ names; texts = first.texts ++ texts }) (library tokens) text kinds
-    → routines_weight (take library_size (typed (record { names = first.names ++ names; texts = first.texts ++ texts }) (library tokens) text kinds).functions) ≤ 600
+    → routines_weight (take library_size (typed (record { names = first.names ++ names; texts = first.texts ++ texts })
+    (library tokens) text kinds).functions) ≤ 600
 
 -- Where no entry stood before, the library's text has tokens that spell a tree, and its names and its text are distinct.
 pub record LibraryIsRead : Type 0 where

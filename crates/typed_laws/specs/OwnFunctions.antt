@@ -71,13 +71,16 @@ HasItsFunction tables names k numbers P library d a n (Some r) =
     × StandFrom P n (own_functions tables names k numbers a.owner library n (kind_at k d) r)
 
 -- In the typed program of a text behind a library each declaration has its function, and the main program is the last one.
-pub record FunctionsAreDeclared (tables : Tables) (library text : Program) (kinds : List (Option StaticType)) : Type 0 where
+pub record FunctionsAreDeclared (tables : Tables) (library text : Program)
+    (kinds : List (Option StaticType)) : Type 0 where
   pub as_many : length (declared_routines (library ++ text)) ≡ length (known library text kinds).entries
   pub each : (d : ℕ) (a : Entry) (does : Option Routine) → slice_get (known library text kinds).entries d ≡ Some a
       → slice_get (declared_routines (library ++ text)) d ≡ Some does
-      → HasItsFunction tables (all_names library text) (known library text kinds) (numbering (library ++ text)) (typed tables library text kinds)
+      → HasItsFunction tables (all_names library text) (known library text kinds) (numbering (library ++ text))
+      (typed tables library text kinds)
       (nat_lt d (known library text kinds).library) d a (routine_number (numbering (library ++ text)) d) does
   pub last : (typed tables library text kinds).main ≡ all_routines (library ++ text)
   pub main : HasRoutine (typed tables library text kinds) (all_routines (library ++ text))
-      (main_routine (items_made tables (all_names library text) (known library text kinds) (numbering (library ++ text)) (library_classes library text)
+      (main_routine (items_made tables (all_names library text) (known library text kinds) (numbering (library ++ text))
+      (library_classes library text)
       (known library text kinds).library 0 (all_routines library) text))

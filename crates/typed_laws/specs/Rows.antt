@@ -46,7 +46,9 @@ abbrev pub sum_names : Tables
 sum_names = spelled (codes "serial" ∷ codes "writeNumber" ∷ [])
 
 abbrev pub written_sum : Program
-written_sum = Main (t.Plain 0 (t.Call 0 (t.Member 0 (t.Name 0 0) 1) (more (t.Binary 19 13 (t.Num 19 (pos 2147483647)) (t.Num 32 (pos 1))) none))) ∷ []
+written_sum =
+    Main (t.Plain 0 (t.Call 0 (t.Member 0 (t.Name 0 0) 1)
+    (more (t.Binary 19 13 (t.Num 19 (pos 2147483647)) (t.Num 32 (pos 1))) none))) ∷ []
 
 -- serial.writeNumber(x)
 abbrev pub unknown_names : Tables
@@ -78,7 +80,9 @@ abbrev pub array_names : Tables
 array_names = spelled (codes "A" ∷ codes "x" ∷ codes "B" ∷ codes "a" ∷ codes "b" ∷ [])
 
 abbrev pub empty_list : ℕ → ℕ → ℕ → ℕ → ℕ → ℕ → t.Statement
-empty_list at name_at name class_at class first_at = t.Let at false (next (Declare name_at name (Some (s.ListOf (s.Named class_at class))) (present (t.Items first_at none))) ended)
+empty_list at name_at name class_at class first_at =
+    t.Let at false
+    (next (Declare name_at name (Some (s.ListOf (s.Named class_at class))) (present (t.Items first_at none))) ended)
 
 abbrev pub arrays : Program
 arrays =
@@ -103,7 +107,8 @@ captured =
     Function 0 (Does 9 [] (Some s.Nothing)
     (also (t.Let 25 false (next (Declare 29 1 None (present (t.Num 33 (pos 5)))) ended))
     (also (t.Plain 39 (t.Call 39 (t.Member 39 (t.Name 39 2) 3) (more (t.Handler 60 (Does 60 [] None
-    (also (t.Plain 82 (t.Call 82 (t.Member 82 (t.Name 82 4) 5) (more (t.Name 101 1) none))) done) false)) none))) done)) false) ∷ []
+    (also (t.Plain 82 (t.Call 82 (t.Member 82 (t.Name 82 4) 5) (more (t.Name 101 1) none))) done) false)) none)))
+    done)) false) ∷ []
 
 -- so many empty statements
 abbrev pub empties : ℕ → Program
@@ -121,7 +126,8 @@ overriding_names = spelled (codes "A" ∷ codes "m" ∷ codes "B" ∷ [])
 abbrev pub overriding : Program
 overriding =
     Class 6 0 None 0 (Method 1 (Does 10 [] (Some s.Nothing) done false) ∷ [])
-    ∷ Class 32 2 (Some 0) 42 (Method 1 (Does 46 [] (Some s.Number) (also (t.Return 60 (present (t.Num 67 (pos 1)))) done) false) ∷ []) ∷ []
+    ∷ Class 32 2 (Some 0) 42
+    (Method 1 (Does 46 [] (Some s.Number) (also (t.Return 60 (present (t.Num 67 (pos 1)))) done) false) ∷ []) ∷ []
 
 -- function h() { return 1 }, and control.inBackground(h)
 abbrev pub handler_names : Tables

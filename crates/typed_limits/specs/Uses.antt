@@ -15,7 +15,8 @@ repeats_with n Repeats = min (n + 1) (2 ^ 32 - 1)
 -- with one expression more
 abbrev pub with_node : Uses → TypedTree → Uses
 with_node u (e.Text t n) = record { texts = u.texts ++ n ∷ []; repeats = u.repeats }
-with_node u (e.Call t (c.Board call) args) = record { texts = u.texts; repeats = repeats_with u.repeats (row_of call).action }
+with_node u (e.Call t (c.Board call) args) =
+    record { texts = u.texts; repeats = repeats_with u.repeats (row_of call).action }
 with_node u a = u
 
 abbrev pub noted : Uses → List TypedTree → Uses

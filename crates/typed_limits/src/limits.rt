@@ -58,8 +58,10 @@ fn routine_fits(body: &TypedBody, weight: u64) -> bool
 /// The weight of some functions together, if each fits; what their expressions use is noted then.
 fn fitting_weight(bodies: &[TypedBody], uses: &mut Uses) -> Result<Option<u64>, NoMemory>
     ensures fits { IfOk result (λ sum. list_all l.routine_fits (typed_routines bodies.now) ≡ is_some sum) }
-    ensures weight { IfOk result (λ sum. IfSome sum (λ n. n ≡ min (w.routines_weight (typed_routines bodies.now)) (2 ^ 64 - 1))) }
-    ensures uses { IfOk result (λ sum. IfSome sum (λ n. uses.new ≡ noted uses.old (all_expressions (typed_routines bodies.now)))) }
+    ensures weight { IfOk result
+        (λ sum. IfSome sum (λ n. n ≡ min (w.routines_weight (typed_routines bodies.now)) (2 ^ 64 - 1))) }
+    ensures uses { IfOk result
+        (λ sum. IfSome sum (λ n. uses.new ≡ noted uses.old (all_expressions (typed_routines bodies.now)))) }
 {
     let mut sum: u64 = 0;
     for body in bodies {
@@ -75,8 +77,10 @@ fn fitting_weight(bodies: &[TypedBody], uses: &mut Uses) -> Result<Option<u64>, 
 /// The weight of a program's functions behind the library's, if each function fits; what the expressions of all use is noted then.
 fn own_weight(bodies: &[TypedBody], uses: &mut Uses) -> Result<Option<u64>, NoMemory>
     ensures fits { IfOk result (λ sum. list_all l.routine_fits (typed_routines bodies.now) ≡ is_some sum) }
-    ensures weight { IfOk result (λ sum. IfSome sum (λ n. n ≡ min (w.routines_weight (drop library_size (typed_routines bodies.now))) (2 ^ 64 - 1))) }
-    ensures uses { IfOk result (λ sum. IfSome sum (λ n. uses.new ≡ noted uses.old (all_expressions (typed_routines bodies.now)))) }
+    ensures weight { IfOk result (λ sum.
+        IfSome sum (λ n. n ≡ min (w.routines_weight (drop library_size (typed_routines bodies.now))) (2 ^ 64 - 1))) }
+    ensures uses { IfOk result
+        (λ sum. IfSome sum (λ n. uses.new ≡ noted uses.old (all_expressions (typed_routines bodies.now)))) }
 {
     let (library, own) = bodies.split_at(bodies.len().min(LIBRARY));
     if fitting_weight(library, uses)?.is_none() {

@@ -8,7 +8,8 @@ use sts_base::{NoMemory, Seq};
 /// Marks a text by its number, if it is there.
 fn mark(marks: &mut [bool], text: u32)
     ensures long { length marks.new ≡ length marks.old }
-    ensures marks { (i : ℕ) → i < length marks.old → slice_index_or marks.new i false ≡ (text == i || slice_index_or marks.old i false) }
+    ensures marks { (i : ℕ) → i < length marks.old
+        → slice_index_or marks.new i false ≡ (text == i || slice_index_or marks.old i false) }
 {
     if (text as usize) < marks.len() {
         marks[text as usize] = true;
@@ -31,7 +32,8 @@ fn no_marks(alloc: Global, count: usize) -> Result<Vec<bool>, NoMemory>
 /// Of each of so many texts whether it is among some, by their numbers.
 fn marked(alloc: Global, used: &[u32], count: usize) -> Result<Vec<bool>, NoMemory>
     ensures long { IfOk result (λ marks. length marks.items ≡ count) }
-    ensures marks { IfOk result (λ marks. (i : ℕ) → i < count → slice_index_or marks.items i false ≡ is_among used.now i) }
+    ensures marks { IfOk result
+        (λ marks. (i : ℕ) → i < count → slice_index_or marks.items i false ≡ is_among used.now i) }
 {
     let mut marks = no_marks(alloc, count)?;
     for text in used {

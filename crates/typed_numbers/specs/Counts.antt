@@ -12,5 +12,6 @@ is_short names = nat_le (length names) 30
 
 abbrev pub counts_fit : Known → Bool
 counts_fit k =
-    nat_le (length k.classes) 64 && nat_le (length (names_of is_global k.entries)) 256 && list_all is_short (names_upto is_field k (length k.classes))
+    nat_le (length k.classes) 64 && nat_le (length (names_of is_global k.entries)) 256
+    && list_all is_short (names_upto is_field k (length k.classes))
     && list_all is_short (names_upto is_method k (length k.classes))

@@ -122,7 +122,8 @@ pub fn class_names(
     known: &Environment,
     class: u32,
 ) -> Result<Seq<u32>, NoMemory>
-    ensures { IfOk result (λ names. names ≡ number.names_from (picks which) known.now (length known.now.classes) class) }
+    ensures { IfOk result
+        (λ names. names ≡ number.names_from (picks which) known.now (length known.now.classes) class) }
 {
     let classes = chain(alloc, known, class)?;
     let classes = classes.as_slice();
@@ -193,8 +194,10 @@ pub struct Names {
 #[tactic(auto, using(crate::proofs::Few::few_classes, crate::proofs::Few::few_globals))]
 pub fn names_of(alloc: Global, known: &Environment) -> Result<Names, NoMemory>
     requires counts { counts_fit known.now ≡ true }
-    ensures fields { IfOk result (λ names. names.fields ≡ names_upto look.is_field known.now (length known.now.classes)) }
-    ensures slots { IfOk result (λ names. names.slots ≡ names_upto number.is_method known.now (length known.now.classes)) }
+    ensures fields { IfOk result
+        (λ names. names.fields ≡ names_upto look.is_field known.now (length known.now.classes)) }
+    ensures slots { IfOk result
+        (λ names. names.slots ≡ names_upto number.is_method known.now (length known.now.classes)) }
     ensures globals { IfOk result (λ names. names.globals ≡ globals_from 0 known.now.entries) }
 {
     Ok(Names {

@@ -62,7 +62,8 @@ fn maker_from(members: &[Member], first: u32, from: u32) -> u32
 /// Adds the numbers of a class's declarations but its own, and gives the one behind its functions.
 fn add_members(routines: &mut Seq<u32>, members: &[Member], from: u32) -> Result<u32, NoMemory>
     requires few { from + h.members_routines (class_members members.now) < 2 ^ 32 }
-    ensures numbers { OnOk result (routines.new ≡ routines.old ++ number.member_numbers from (class_members members.now)) }
+    ensures numbers { OnOk result
+        (routines.new ≡ routines.old ++ number.member_numbers from (class_members members.now)) }
     ensures behind { IfOk result (λ n. n ≡ from + h.members_routines (class_members members.now)) }
 {
     let mut at = from;
@@ -100,10 +101,14 @@ fn add_main(routines: &mut Seq<u32>, s: &Stmt) -> Result<(), NoMemory>
 impl Numbers {
     /// Adds the numbers of a class, whose functions begin with a number, and gives the one behind them.
     fn add_class(&mut self, members: &[Member], from: u32) -> Result<u32, NoMemory>
-        requires few { from + (h.unwritten (class_members members.now) + h.members_routines (class_members members.now)) < 2 ^ 32 }
-        ensures routines { OnOk result (self.new.routines ≡ self.old.routines ++ 0 ∷ number.member_numbers (from + h.unwritten (class_members members.now)) (class_members members.now)) }
-        ensures makers { OnOk result (self.new.makers ≡ self.old.makers ++ number.maker_from from from (class_members members.now) ∷ []) }
-        ensures behind { IfOk result (λ n. n ≡ from + (h.unwritten (class_members members.now) + h.members_routines (class_members members.now))) }
+        requires few { from
+            + (h.unwritten (class_members members.now) + h.members_routines (class_members members.now)) < 2 ^ 32 }
+        ensures routines { OnOk result (self.new.routines ≡ self.old.routines
+            ++ 0 ∷ number.member_numbers (from + h.unwritten (class_members members.now)) (class_members members.now)) }
+        ensures makers { OnOk result
+            (self.new.makers ≡ self.old.makers ++ number.maker_from from from (class_members members.now) ∷ []) }
+        ensures behind { IfOk result (λ n. n
+            ≡ from + (h.unwritten (class_members members.now) + h.members_routines (class_members members.now))) }
     {
         self.makers.push(maker_from(members, from, from))?;
         self.routines.push(0)?;
@@ -113,8 +118,10 @@ impl Numbers {
     /// Adds the numbers of a part of a text, whose functions begin with a number, and gives the one behind them.
     fn add_item(&mut self, item: &Item, from: u32) -> Result<u32, NoMemory>
         requires few { from + h.item_routines (top_level item.now) < 2 ^ 32 }
-        ensures routines { OnOk result (self.new.routines ≡ self.old.routines ++ number.item_numbers from (top_level item.now)) }
-        ensures makers { OnOk result (self.new.makers ≡ self.old.makers ++ number.item_makers from (top_level item.now)) }
+        ensures routines { OnOk result
+            (self.new.routines ≡ self.old.routines ++ number.item_numbers from (top_level item.now)) }
+        ensures makers { OnOk result
+            (self.new.makers ≡ self.old.makers ++ number.item_makers from (top_level item.now)) }
         ensures behind { IfOk result (λ n. n ≡ from + h.item_routines (top_level item.now)) }
     {
         match item {
@@ -133,8 +140,10 @@ impl Numbers {
     /// Adds the numbers of a text, whose functions begin with a number, and gives the one behind them.
     fn add_items(&mut self, items: &[Item], from: u32) -> Result<u32, NoMemory>
         requires few { from + h.all_routines (top_levels items.now) < 2 ^ 32 }
-        ensures routines { OnOk result (self.new.routines ≡ self.old.routines ++ number.numbers_from from (top_levels items.now)) }
-        ensures makers { OnOk result (self.new.makers ≡ self.old.makers ++ number.makers_from from (top_levels items.now)) }
+        ensures routines { OnOk result
+            (self.new.routines ≡ self.old.routines ++ number.numbers_from from (top_levels items.now)) }
+        ensures makers { OnOk result
+            (self.new.makers ≡ self.old.makers ++ number.makers_from from (top_levels items.now)) }
         ensures behind { IfOk result (λ n. n ≡ from + h.all_routines (top_levels items.now)) }
     {
         let mut at = from;

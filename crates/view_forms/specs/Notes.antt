@@ -16,7 +16,8 @@ is_sentence = list_all (λ b. not (b == 10))
 abbrev pub fits_note : Note → List ℕ → Bool
 fits_note note told =
     begins_by note.begins.now told
-    && (is_sentence note.says.now && (let rest = drop (length note.begins.now) told in ends_by note.ends.now rest && list_all is_number_sign (take (length rest - length note.ends.now) rest)))
+    && (is_sentence note.says.now && (let rest = drop (length note.begins.now) told in
+    ends_by note.ends.now rest && list_all is_number_sign (take (length rest - length note.ends.now) rest)))
 
 -- what the first row says that fits, behind a tab; nothing where none does
 abbrev pub note_said : List Note → List ℕ → List ℕ

@@ -14,11 +14,14 @@ lines_in (b ∷ bs) = if b == 10 then [] ∷ lines_in bs else before_lines b (li
 
 -- how many bytes the word at the front has, where it is a number of one to ten digits with a space behind it; else 0
 abbrev pub number_size : List ℕ → ℕ
-number_size line = let n = prefix_len is_ascii_digit line in if nat_le 1 n && (nat_le n 10 && (get_or line n 0 == 32)) then n else 0
+number_size line =
+    let n = prefix_len is_ascii_digit line in if nat_le 1 n && (nat_le n 10 && (get_or line n 0 == 32)) then n else 0
 
 -- the same of the lead: one such number, or two of which the first has one digit
 abbrev pub lead_size : List ℕ → ℕ
-lead_size line = if number_size line == 1 then (if number_size (drop 2 line) == 0 then 1 else number_size (drop 2 line) + 2) else number_size line
+lead_size line =
+    if number_size line == 1 then (if number_size (drop 2 line) == 0 then 1 else number_size (drop 2 line) + 2)
+    else number_size line
 
 abbrev pub line_lead : List ℕ → List ℕ
 line_lead line = take (lead_size line) line

@@ -25,7 +25,8 @@ is_picture p = (length p == 29)
 
 -- a line that shows a picture: behind its lead the word display and the picture
 abbrev pub shows_picture : List ℕ → Bool
-shows_picture line = nat_lt 0 (lead_size line) && (begins_by (codes "display ") (told_of line) && is_picture (drop 8 (told_of line)))
+shows_picture line =
+    nat_lt 0 (lead_size line) && (begins_by (codes "display ") (told_of line) && is_picture (drop 8 (told_of line)))
 
 abbrev pub picture_of : List ℕ → List ℕ
 picture_of line = drop 8 (told_of line)
@@ -40,7 +41,8 @@ is_hex_text [] = true
 is_hex_text (h ∷ []) = false
 
 abbrev pub shows_text : List ℕ → Bool
-shows_text line = nat_lt 0 (lead_size line) && (begins_by (codes "serial ") (told_of line) && is_hex_text (drop 7 (told_of line)))
+shows_text line =
+    nat_lt 0 (lead_size line) && (begins_by (codes "serial ") (told_of line) && is_hex_text (drop 7 (told_of line)))
 
 abbrev pub text_of_serial : List ℕ → List ℕ
 text_of_serial line = bytes_of_hex (drop 7 (told_of line))
@@ -51,7 +53,8 @@ text_row line = line_lead line ++ (codes " serial \"" ++ (shown_bytes (text_of_s
 
 -- two squares for a light: full ones where it is lit, else two dots
 abbrev pub squares : ℕ → List ℕ
-squares light = if light == 35 then 226 ∷ (150 ∷ (136 ∷ (226 ∷ (150 ∷ (136 ∷ []))))) else 194 ∷ (183 ∷ (194 ∷ (183 ∷ [])))
+squares light =
+    if light == 35 then 226 ∷ (150 ∷ (136 ∷ (226 ∷ (150 ∷ (136 ∷ []))))) else 194 ∷ (183 ∷ (194 ∷ (183 ∷ [])))
 
 -- the columns of a picture with what is before it
 abbrev pub picture_columns : ℕ
@@ -74,7 +77,9 @@ squares_row r lines = flat_map (squares_cell r) lines
 
 -- the rows of pictures side by side, of which there are some
 abbrev pub picture_rows_of : List (List ℕ) → List (List ℕ)
-picture_rows_of lines = heading lines ∷ (squares_row 0 lines ∷ (squares_row 1 lines ∷ (squares_row 2 lines ∷ (squares_row 3 lines ∷ (squares_row 4 lines ∷ [])))))
+picture_rows_of lines =
+    heading lines ∷ (squares_row 0
+    lines ∷ (squares_row 1 lines ∷ (squares_row 2 lines ∷ (squares_row 3 lines ∷ (squares_row 4 lines ∷ [])))))
 
 abbrev pub picture_rows : List (List ℕ) → List (List ℕ)
 picture_rows [] = []

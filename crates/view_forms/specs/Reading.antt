@@ -15,7 +15,8 @@ unshown [] = []
 unshown (b ∷ []) = b ∷ []
 unshown (b ∷ (c ∷ [])) = b ∷ (c ∷ [])
 unshown (b ∷ (c ∷ (d ∷ []))) = b ∷ (c ∷ (d ∷ []))
-unshown (b ∷ (x ∷ (h ∷ (l ∷ rest)))) = if b == 92 then (16 * nibble h + nibble l) ∷ unshown rest else b ∷ unshown (x ∷ (h ∷ (l ∷ rest)))
+unshown (b ∷ (x ∷ (h ∷ (l ∷ rest)))) =
+    if b == 92 then (16 * nibble h + nibble l) ∷ unshown rest else b ∷ unshown (x ∷ (h ∷ (l ∷ rest)))
 
 -- what stands before the first such byte, and what stands behind it
 abbrev pub before_byte : ℕ → List ℕ → List ℕ
@@ -31,7 +32,9 @@ has_byte c = list_any (λ b. b == c)
 
 -- a row without what is said behind a tab: between quotation marks stand bytes, which the line has as digits
 abbrev pub line_told : List ℕ → List ℕ
-line_told row = if has_byte 34 row then before_byte 34 row ++ flat_map hex_pair (unshown (before_byte 34 (behind_byte 34 row))) else unshown row
+line_told row =
+    if has_byte 34 row then before_byte 34 row ++ flat_map hex_pair (unshown (before_byte 34 (behind_byte 34 row)))
+    else unshown row
 
 abbrev pub line_of_row : List ℕ → List ℕ
 line_of_row row = line_told (before_byte 9 row)
@@ -56,7 +59,8 @@ lights_in row = halved (flat_map light_of_byte row)
 abbrev pub pictures_read : ℕ → List ℕ → (a b c d e : List ℕ) → List (List ℕ)
 pictures_read zero over a b c d e = []
 pictures_read (suc n) over a b c d e =
-    (without_spaces (take picture_columns over) ++ (codes " display " ++ (take 5 a ++ (47 ∷ (take 5 b ++ (47 ∷ (take 5 c ++ (47 ∷ (take 5 d ++ (47 ∷ take 5 e))))))))))
+    (without_spaces (take picture_columns over) ++ (codes " display "
+    ++ (take 5 a ++ (47 ∷ (take 5 b ++ (47 ∷ (take 5 c ++ (47 ∷ (take 5 d ++ (47 ∷ take 5 e))))))))))
     ∷ pictures_read n (drop picture_columns over) (drop 5 a) (drop 5 b) (drop 5 c) (drop 5 d) (drop 5 e)
 
 abbrev pub light_row : ℕ → List (List ℕ) → List ℕ
@@ -64,7 +68,8 @@ light_row r rows = lights_in (get_or rows r [])
 
 abbrev pub pictures_under : List ℕ → List (List ℕ) → List (List ℕ)
 pictures_under over rows =
-    pictures_read (length (light_row 0 rows) / 5) over (light_row 0 rows) (light_row 1 rows) (light_row 2 rows) (light_row 3 rows) (light_row 4 rows)
+    pictures_read (length (light_row 0 rows) / 5) over (light_row 0 rows) (light_row 1 rows) (light_row 2 rows)
+    (light_row 3 rows) (light_row 4 rows)
 
 -- the lines of a row before others: of a heading, which has a digit behind its spaces, those of the pictures under it; of squares none, since the heading has told, and of an explanation none
 abbrev pub lines_of_row : List ℕ → List (List ℕ) → List (List ℕ)

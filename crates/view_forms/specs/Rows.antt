@@ -19,14 +19,16 @@ told_rows notes line (Some text) = literal line ∷ map marked (lines_in text)
 
 -- the rows of a line that shows no picture
 abbrev pub line_rows : List Note → List Below → List ℕ → List (List ℕ)
-line_rows notes below line = if shows_text line then text_row line ∷ [] else told_rows notes line (explanation_of below line)
+line_rows notes below line =
+    if shows_text line then text_row line ∷ [] else told_rows notes line (explanation_of below line)
 
 -- the rows of lines behind pictures that wait: so many stand side by side at most, and none waits past a line without a picture
 abbrev pub rows_from : List Note → List Below → ℕ → List (List ℕ) → List (List ℕ) → List (List ℕ)
 rows_from notes below most waiting [] = picture_rows waiting
 rows_from notes below most waiting (l ∷ ls) =
     if shows_picture l
-    then (if nat_lt (length waiting + 1) most then rows_from notes below most (waiting ++ l ∷ []) ls else picture_rows (waiting ++ l ∷ []) ++ rows_from notes below most [] ls)
+    then (if nat_lt (length waiting + 1) most then rows_from notes below most (waiting ++ l ∷ []) ls
+    else picture_rows (waiting ++ l ∷ []) ++ rows_from notes below most [] ls)
     else picture_rows waiting ++ (line_rows notes below l ++ rows_from notes below most [] ls)
 
 -- rows as a text, each with its line's end
@@ -35,4 +37,5 @@ text_of_rows rows = flat_map (λ row. row ++ 10 ∷ []) rows
 
 -- the view by a table of what is said of lines, and one of what stands below some, for a terminal that is that many columns wide
 abbrev pub text_view : List Note → List Below → (width : ℕ) → (input : List ℕ) → List ℕ
-text_view notes below width input = text_of_rows (rows_from notes below (max (width / picture_columns) 1) [] (lines_in input))
+text_view notes below width input =
+    text_of_rows (rows_from notes below (max (width / picture_columns) 1) [] (lines_in input))

@@ -11,12 +11,14 @@ ghost use Rattle.view_forms.specs.Page.{is_markup, page_text, page_view, transcr
 /// From a view as a text all lines of the transcript are read back, each once and in their order, whatever bytes it is made of, however wide the
 /// view is, whatever is said of lines, and whatever stands below them.
 pub fn lines_come_back()
-    ensures { (notes : List Note) (below : List Below) (width : ℕ) (input : List ℕ) → list_all is_byte input ≡ true → lines_read (text_view notes below width input) ≡ lines_in input }
+    ensures { (notes : List Note) (below : List Below) (width : ℕ) (input : List ℕ) → list_all is_byte input ≡ true
+        → lines_read (text_view notes below width input) ≡ lines_in input }
 {}
 
 /// From a page the transcript is read back, byte for byte.
 pub fn pages_tell_all()
-    ensures { (head tail input : List ℕ) → list_all is_byte input ≡ true → transcript_read head (page_view head (60 ∷ tail) input) ≡ input }
+    ensures { (head tail input : List ℕ) → list_all is_byte input ≡ true
+        → transcript_read head (page_view head (60 ∷ tail) input) ≡ input }
 {}
 
 /// No sign of markup in a page comes from the transcript.

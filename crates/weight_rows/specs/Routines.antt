@@ -77,7 +77,9 @@ counts_on = record {
   params = t.Number ∷ [];
   locals = [];
   gives = t.Nothing;
-  all = also (ask b.WriteNumber (one (name (Param 0)))) (also (run 7 (one (binary 13 (name (Param 0)) (number (pos 1))))) done);
+  all =
+      also (ask b.WriteNumber (one (name (Param 0))))
+      (also (run 7 (one (binary 13 (name (Param 0)) (number (pos 1))))) done);
 }
 
 abbrev pub starts_at_one : TypedRoutine
@@ -89,14 +91,18 @@ waits = record { params = []; locals = []; gives = t.Nothing; all = also (ask b.
 
 -- `function worker() { for (let r = 0; r < 10; r++) { x = f1(x); basic.pause(1) } done += 1; if (done == 5) { serial.writeNumber(x) } }`
 abbrev pub worker_turn : TypedStatement
-worker_turn = Block (also (set None (name (Global 0)) (call 7 (one (name (Global 0))))) (also (ask b.Pause (one (number (pos 1)))) done))
+worker_turn =
+    Block (also (set None (name (Global 0)) (call 7 (one (name (Global 0)))))
+    (also (ask b.Pause (one (number (pos 1)))) done))
 
 abbrev pub worker_loop : TypedStatement
 worker_loop =
-    For (written (declare (Local 0) (number (pos 0)))) (Some (binary 6 (name (Local 0)) (number (pos 10)))) (Some (increment (Local 0))) worker_turn
+    For (written (declare (Local 0) (number (pos 0)))) (Some (binary 6 (name (Local 0)) (number (pos 10))))
+    (Some (increment (Local 0))) worker_turn
 
 abbrev pub worker_end : TypedStatement
-worker_end = IfOnly (binary 4 (name (Global 1)) (number (pos 5))) (Block (also (ask b.WriteNumber (one (name (Global 0)))) done))
+worker_end =
+    IfOnly (binary 4 (name (Global 1)) (number (pos 5))) (Block (also (ask b.WriteNumber (one (name (Global 0)))) done))
 
 abbrev pub worker : TypedRoutine
 worker = record {
@@ -125,7 +131,8 @@ makes_cells =
 abbrev pub starts_waiters : TypedRoutine
 starts_waiters =
     let starts = Block (also (ask b.InBackground (one (Handler t.Nothing 7))) done) in
-    let loops = For (written (declare (Local 0) (number (pos 0)))) (Some (binary 6 (name (Local 0)) (number (pos 23)))) (Some (increment (Local 0))) starts in
+    let loops = For (written (declare (Local 0) (number (pos 0)))) (Some (binary 6 (name (Local 0)) (number (pos 23))))
+    (Some (increment (Local 0))) starts in
     let listens = ask b.OnEvent (more (number (pos 61)) (two (number (pos 1)) (Handler t.Nothing 8))) in
     let raises = ask b.RaiseEvent (two (number (pos 61)) (number (pos 1))) in
     record { params = []; locals = t.Number ∷ []; gives = t.Nothing; all = also loops (also listens (also raises done)) }
@@ -142,7 +149,9 @@ makes_paddle =
       params = t.Object 0 ∷ [];
       locals = [];
       gives = t.Nothing;
-      all = also (set None (paddle_x (This (t.Object 0))) (number (pos 2))) (also (ask b.Plot (two (number (pos 2)) (number (pos 4)))) done);
+      all =
+          also (set None (paddle_x (This (t.Object 0))) (number (pos 2)))
+          (also (ask b.Plot (two (number (pos 2)) (number (pos 4)))) done);
     }
 
 abbrev pub moves_paddle : TypedRoutine
@@ -163,10 +172,13 @@ drop_falls =
     let row = name (Local 1) in
     let turn = name (Global 2) in
     let score = name (Global 3) in
-    let falls = Block (also (ask b.Plot (two column row)) (also (ask b.Pause (one (number (pos 100)))) (also (ask b.Unplot (two column row)) done))) in
-    let loops = For (written (declare (Local 1) (number (pos 0)))) (Some (binary 6 row (number (pos 4)))) (Some (increment (Local 1))) falls in
+    let falls = Block (also (ask b.Plot (two column row))
+    (also (ask b.Pause (one (number (pos 100)))) (also (ask b.Unplot (two column row)) done))) in
+    let loops = For (written (declare (Local 1) (number (pos 0)))) (Some (binary 6 row (number (pos 4))))
+    (Some (increment (Local 1))) falls in
     let caught =
-    IfOnly (binary 4 (paddle_x (Name (t.Object 0) (Global 0))) column) (Block (also (set (Some 13) score (number (pos 1))) done)) in
+    IfOnly (binary 4 (paddle_x (Name (t.Object 0) (Global 0))) column)
+    (Block (also (set (Some 13) score (number (pos 1))) done)) in
     let whole =
     also (declare (Local 0) (Item t.Number (Name (t.ListOf t.Number) (Global 1)) turn))
     (also loops (also caught (also (set (Some 13) turn (number (pos 1))) (also (run 1 (one score)) done)))) in
@@ -184,15 +196,20 @@ button_moves =
 
 abbrev pub game : TypedRoutine
 game =
-    let drops = more (number (pos 0)) (more (number (pos 3)) (more (number (pos 1)) (two (number (pos 4)) (number (pos 2))))) in
-    let listens = λ (button : ℤ) (handler : ℕ). ask b.OnButtonPressed (two (number button) (Handler t.Nothing handler)) in
+    let drops = more (number (pos 0))
+    (more (number (pos 3)) (more (number (pos 1)) (two (number (pos 4)) (number (pos 2))))) in
+    let listens = λ (button : ℤ) (handler : ℕ).
+    ask b.OnButtonPressed (two (number button) (Handler t.Nothing handler)) in
     record {
       params = [];
       locals = [];
       gives = t.Nothing;
-      all = also (declare (Global 0) (Make (t.Object 0) 0 none)) (also (declare (Global 1) (Items (t.ListOf t.Number) drops))
+      all =
+          also (declare (Global 0) (Make (t.Object 0) 0 none))
+          (also (declare (Global 1) (Items (t.ListOf t.Number) drops))
           (also (declare (Global 2) (number (pos 0))) (also (declare (Global 3) (number (pos 0)))
-          (also (listens (pos 1) 9) (also (listens (pos 2) 10) (also (ask b.Forever (one (Handler t.Nothing 11))) done))))));
+          (also (listens (pos 1) 9)
+          (also (listens (pos 2) 10) (also (ask b.Forever (one (Handler t.Nothing 11))) done))))));
     }
 
 -- what a measured function takes

@@ -35,7 +35,8 @@ told known (Faults kind address) = Faults kind address
 -- to tell where there is no answer is a fault
 abbrev pub teller_turn : List Routine → List Task → Teller → ℤ → Turn Teller ℤ
 teller_turn program [] c s = told c.known (turn_of program [] c.clerk s)
-teller_turn program (Tell ∷ rest) c s = if c.known then told c.known (turn_of program (Tell ∷ rest) c.clerk s) else Faults 0 0
+teller_turn program (Tell ∷ rest) c s =
+    if c.known then told c.known (turn_of program (Tell ∷ rest) c.clerk s) else Faults 0 0
 teller_turn program (task ∷ rest) c s = told (known_after c.known task) (turn_of program (task ∷ rest) c.clerk s)
 
 abbrev pub tellers : List Routine → Kind Teller ℤ

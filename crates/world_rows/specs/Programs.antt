@@ -44,7 +44,8 @@ wait_for source value = Ask (Wait (event source value))
 
 -- listeners queue while they are busy (16) unless a mode is said
 abbrev pub listen_in : ℕ → ℕ → ℕ → ℕ → Task
-listen_in mode source value handler = Ask (Listen (record { source = pos source; value = pos value; handler = handler; mode = pos mode }))
+listen_in mode source value handler =
+    Ask (Listen (record { source = pos source; value = pos value; handler = handler; mode = pos mode }))
 
 abbrev pub listen : ℕ → ℕ → ℕ → Task
 listen = listen_in 16
@@ -99,7 +100,8 @@ many_events n = routine 8 (listen 70 0 1 ∷ raises 70 n) ∷ routine 6 (Ask Eve
 
 -- n events for a handler that pauses, in a mode
 abbrev pub busy_handler : ℕ → ℕ → List Routine
-busy_handler mode n = routine 8 (listen_in mode 50 0 1 ∷ raises 50 n) ∷ routine 6 (pause 5 ∷ Ask EventValue ∷ Tell ∷ []) ∷ []
+busy_handler mode n =
+    routine 8 (listen_in mode 50 0 1 ∷ raises 50 n) ∷ routine 6 (pause 5 ∷ Ask EventValue ∷ Tell ∷ []) ∷ []
 
 -- a handler runs before its raiser goes on, n times
 abbrev pub at_once : ℕ → List Routine
@@ -201,7 +203,8 @@ button_b_teller = routine 6 (listen 2 0 1 ∷ []) ∷ routine 6 (Ask EventValue 
 -- it tells after 15 ms whether buttons B, A and 3 are down
 abbrev pub buttons_asker : List Routine
 buttons_asker =
-    routine 6 (pause 15 ∷ Ask (Button (pos 2)) ∷ Tell ∷ Ask (Button (pos 1)) ∷ Tell ∷ Ask (Button (pos 3)) ∷ Tell ∷ []) ∷ []
+    routine 6
+    (pause 15 ∷ Ask (Button (pos 2)) ∷ Tell ∷ Ask (Button (pos 1)) ∷ Tell ∷ Ask (Button (pos 3)) ∷ Tell ∷ []) ∷ []
 
 -- the event's value of an activity that no event started
 abbrev pub value_teller : List Routine
@@ -213,7 +216,8 @@ any_listener = routine 6 (listen 0 0 1 ∷ raise 50 7 ∷ raise 60 8 ∷ []) ∷
 
 -- a handler that registers a listener of the event that started it
 abbrev pub late_listener : List Routine
-late_listener = routine 6 (listen 50 1 1 ∷ raise 50 1 ∷ []) ∷ routine 6 (listen 50 1 2 ∷ []) ∷ routine 6 (write 2 ∷ []) ∷ []
+late_listener =
+    routine 6 (listen 50 1 1 ∷ raise 50 1 ∷ []) ∷ routine 6 (listen 50 1 2 ∷ []) ∷ routine 6 (write 2 ∷ []) ∷ []
 
 -- n activities that end, and n more
 abbrev pub seats_given_back : ℕ → List Routine

@@ -33,7 +33,8 @@ slow_step K true a s = Goes (fresh a) s
 slow_step K false a s = slowed (K.step a s)
 
 abbrev pub slow : {A S : Type 0} → Kind A S → Kind (Slowed A) S
-slow K = record { begin = λ f. fresh (K.begin f); step = λ c s. slow_step K c.due c.self s; depth = λ c. K.depth c.self }
+slow K =
+    record { begin = λ f. fresh (K.begin f); step = λ c s. slow_step K c.due c.self s; depth = λ c. K.depth c.self }
 
 -- what ties an activity to its slow form: nothing but itself, and one and the same shared state
 abbrev pub Anything : {S : Type 0} → ℕ → S → Type 0

@@ -14,9 +14,12 @@ ghost use Rattle.world_rows.specs.Programs.{hasty};
 /// Where nothing is told before there is an answer, no run ends by a fault, whatever arrives, and a kind that owes nothing at
 /// faults implements this one.
 pub fn careful_programs_make_no_fault()
-    ensures no_fault { (program : List Routine) → AreCareful program → (until : ℕ) (script : List Entry) (arrivals : List Arrival) → Rises 0 arrivals → (m : ℕ)
-        → SoundEnd (λ kind address. ⊥) (run_with (tellers program) arrivals m (start (tellers program) 0 (pos 0) until script)).board.end }
-    ensures implemented { (program : List Routine) → AreCareful program → Implements 1 (boards_from (tellers program) 0 (pos 0)) (boards_from (clerks program) 0 (pos 0)) }
+    ensures no_fault { (program : List Routine) → AreCareful program
+        → (until : ℕ) (script : List Entry) (arrivals : List Arrival) → Rises 0 arrivals → (m : ℕ)
+        → SoundEnd (λ kind address. ⊥)
+        (run_with (tellers program) arrivals m (start (tellers program) 0 (pos 0) until script)).board.end }
+    ensures implemented { (program : List Routine) → AreCareful program
+        → Implements 1 (boards_from (tellers program) 0 (pos 0)) (boards_from (clerks program) 0 (pos 0)) }
 {}
 
 /// Elsewhere there is a fault, and the lower kind does what it will.

@@ -21,26 +21,34 @@ pub fn rows_of_activities()
 /// The clock, the script and its end.
 pub fn rows_of_the_clock()
     ensures blinking { written_on 40 blinking 50 [] ≡ codes "0 display #..../...../...../...../.....\n20 display ...../...../...../...../.....\n40 display #..../...../...../...../.....\nend 50 script\n" }
-    ensures sleeper_first { written_on 30 sleeper_and_press 1000 (at_time 10 1 ∷ []) ≡ codes "10 serial 32\n10 serial 31\nend 10 quiet\n" }
+    ensures sleeper_first { written_on 30 sleeper_and_press 1000 (at_time 10 1 ∷ [])
+        ≡ codes "10 serial 32\n10 serial 31\nend 10 quiet\n" }
     ensures at_the_end { written_on 20 (late_writer 50) 50 [] ≡ codes "50 serial 31\nend 50 quiet\n" }
     ensures past_the_end { written_on 20 (late_writer 50) 49 [] ≡ codes "end 49 script\n" }
-    ensures entry_at_the_end { written_on 30 button_teller 50 (at_time 50 1 ∷ []) ≡ codes "50 serial 31\nend 50 quiet\n" }
+    ensures entry_at_the_end { written_on 30 button_teller 50 (at_time 50 1 ∷ [])
+        ≡ codes "50 serial 31\nend 50 quiet\n" }
     ensures budget { written 2 shortest_pause ≡ codes "budget 1\n" }
-    ensures entry_heard_at_the_end { written_on 20 press_teller 50 (at_time 50 1 ∷ []) ≡ codes "50 serial 31\nend 50 quiet\n" }
+    ensures entry_heard_at_the_end { written_on 20 press_teller 50 (at_time 50 1 ∷ [])
+        ≡ codes "50 serial 31\nend 50 quiet\n" }
     ensures budget_of_one { written 1 (late_writer 0) ≡ codes "budget 1\n" }
 {}
 
 /// A click is under 1000 ms, a long click is not.
 pub fn rows_of_buttons()
-    ensures click { written_on 30 button_teller 2000 (press 100 999) ≡ codes "100 serial 31\n1099 serial 32\n1099 serial 33\nend 1099 quiet\n" }
-    ensures long_click { written_on 30 button_teller 2000 (press 100 1000) ≡ codes "100 serial 31\n1100 serial 32\n1100 serial 34\nend 1100 quiet\n" }
+    ensures click { written_on 30 button_teller 2000 (press 100 999)
+        ≡ codes "100 serial 31\n1099 serial 32\n1099 serial 33\nend 1099 quiet\n" }
+    ensures long_click { written_on 30 button_teller 2000 (press 100 1000)
+        ≡ codes "100 serial 31\n1100 serial 32\n1100 serial 34\nend 1100 quiet\n" }
     ensures heard_click { written_on 30 click_teller 1000 (press 100 200) ≡ codes "300 serial 31\nend 300 quiet\n" }
     ensures unheard_click { written_on 30 click_teller 2000 (press 100 1000) ≡ codes "end 1100 quiet\n" }
-    ensures down_twice { written_on 30 button_teller 100 (at_time 10 1 ∷ at_time 20 1 ∷ up_at 30 1 ∷ up_at 40 1 ∷ []) ≡ codes "10 serial 31\n30 serial 32\n30 serial 33\nend 40 quiet\n" }
+    ensures down_twice { written_on 30 button_teller 100 (at_time 10 1 ∷ at_time 20 1 ∷ up_at 30 1 ∷ up_at 40 1 ∷ [])
+        ≡ codes "10 serial 31\n30 serial 32\n30 serial 33\nend 40 quiet\n" }
     ensures asked { written_on 30 button_asker 100 (at_time 10 1 ∷ []) ≡ codes "15 serial 31\nend 15 quiet\n" }
     ensures last_click { written_on 30 click_teller 2000 (press 100 999) ≡ codes "1099 serial 31\nend 1099 quiet\n" }
-    ensures button_b { written_on 30 button_b_teller 100 (at_time 10 2 ∷ up_at 20 2 ∷ []) ≡ codes "10 serial 31\n20 serial 32\n20 serial 33\nend 20 quiet\n" }
-    ensures all_asked { written_on 30 buttons_asker 100 (at_time 10 2 ∷ []) ≡ codes "15 serial 31\n15 serial 30\n15 serial 30\nend 15 quiet\n" }
+    ensures button_b { written_on 30 button_b_teller 100 (at_time 10 2 ∷ up_at 20 2 ∷ [])
+        ≡ codes "10 serial 31\n20 serial 32\n20 serial 33\nend 20 quiet\n" }
+    ensures all_asked { written_on 30 buttons_asker 100 (at_time 10 2 ∷ [])
+        ≡ codes "15 serial 31\n15 serial 30\n15 serial 30\nend 15 quiet\n" }
 {}
 
 /// 24 seats, 32 queued events.
@@ -68,7 +76,8 @@ pub fn rows_of_busy_listeners()
     ensures holds_ten { written 120 (busy_handler 16 12) ≡ codes "5 serial 31\n10 serial 32\n15 serial 33\n20 serial 34\n25 serial 35\n30 serial 36\n35 serial 37\n40 serial 38\n45 serial 39\n50 serial 3130\n55 serial 3131\nend 55 quiet\n" }
     ensures reentrant { written 40 (busy_handler 8 3) ≡ codes "5 serial 31\n5 serial 32\n5 serial 33\nend 5 quiet\n" }
     ensures drops_counted { counted 40 (busy_handler 32 3) ≡ codes "stats spawned 1 blocked 1 words 6 seats 1\n" }
-    ensures holds_ten_counted { counted 120 (busy_handler 16 12) ≡ codes "stats spawned 1 blocked 1 words 66 seats 1\n" }
+    ensures holds_ten_counted { counted 120 (busy_handler 16 12)
+        ≡ codes "stats spawned 1 blocked 1 words 66 seats 1\n" }
     ensures reentrant_counted { counted 40 (busy_handler 8 3) ≡ codes "stats spawned 1 blocked 3 words 18 seats 3\n" }
 {}
 
@@ -76,7 +85,8 @@ pub fn rows_of_busy_listeners()
 pub fn rows_of_raising_at_once()
     ensures raises_now { written 30 (at_once 1) ≡ codes "0 serial 31\n0 serial 39\n5 serial 32\nend 5 quiet\n" }
     ensures raises_now_counted { counted 30 (at_once 1) ≡ codes "stats spawned 1 blocked 1 words 6 seats 2\n" }
-    ensures raises_twice { written 40 (at_once 2) ≡ codes "0 serial 31\n0 serial 39\n0 serial 39\n5 serial 32\n5 serial 31\n10 serial 32\nend 10 quiet\n" }
+    ensures raises_twice { written 40 (at_once 2)
+        ≡ codes "0 serial 31\n0 serial 39\n0 serial 39\n5 serial 32\n5 serial 31\n10 serial 32\nend 10 quiet\n" }
     ensures raises_twice_counted { counted 40 (at_once 2) ≡ codes "stats spawned 1 blocked 1 words 12 seats 2\n" }
     ensures too_many_raisers { written 60 endless_raisers ≡ codes "panic 0 106\n" }
     ensures waiter_at_once { written 20 waiter_at_once ≡ codes "1 serial 32\n1 serial 39\n1 serial 31\nend 1 quiet\n" }

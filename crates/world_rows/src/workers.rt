@@ -9,6 +9,8 @@ ghost use Rattle.world_rows.specs.Workers.{workers, linked, address};
 
 /// Operations at places do what a list of requests does, in at most three steps for one, whatever arrives.
 pub fn operations_do_what_requests_do()
-    ensures { (program : List Routine) (until : ℕ) (script : List Entry) (arrivals : List Arrival) (m : ℕ) → Rises 0 arrivals →
-        Keeps 3 (boards_from (clerks program) 0 (pos 0) until script) (boards_from (workers (linked program)) (address program 0) (pos 0) until script) arrivals m }
+    ensures { (program : List Routine) (until : ℕ) (script : List Entry) (arrivals : List Arrival) (m : ℕ) →
+        Rises 0 arrivals →
+        Keeps 3 (boards_from (clerks program) 0 (pos 0) until script)
+        (boards_from (workers (linked program)) (address program 0) (pos 0) until script) arrivals m }
 {}

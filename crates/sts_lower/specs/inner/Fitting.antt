@@ -96,7 +96,8 @@ module _ (params : ℕ) where
     IsStatement (e.IfElse test a o) = IsLowerable test × IsStatement a × IsStatement o
     IsStatement (e.While test a) = IsLowerable test × IsStatement a
     IsStatement (e.DoWhile a test) = IsStatement a × IsLowerable test
-    IsStatement (e.For first test step a) = IsFirst first × IsLowerableIfAny test × IsLowerableIfAny step × IsStatement a
+    IsStatement (e.For first test step a) =
+        IsFirst first × IsLowerableIfAny test × IsLowerableIfAny step × IsStatement a
     IsStatement (e.ForOf fixed x list a) = LoopFits x × IsLowerable list × IsStatement a
     IsStatement (e.Return value) = IsLowerableIfAny value
     IsStatement e.Break = Unit {0}
@@ -117,16 +118,22 @@ module _ (L : Layout) where
   abbrev pub WorkFits : Work → Type 0
   WorkFits (Put op) = Unit {0}
   WorkFits (Value a d at next) = (at + size a < 2 ^ 32) × (L.base + d + hold a < 2 ^ 32) × IsLowerable L.params a
-  WorkFits (Reach x d at) = (at + reach_size x < 2 ^ 32) × (L.base + d + target_hold x 0 0 < 2 ^ 32) × IsTarget L.params x
+  WorkFits (Reach x d at) =
+      (at + reach_size x < 2 ^ 32) × (L.base + d + target_hold x 0 0 < 2 ^ 32) × IsTarget L.params x
   WorkFits (Arguments places args d at) =
-      (at + total (placed (λ n. 1) places (sizes args)) < 2 ^ 32) × (L.base + stacked d (placed (λ n. 1) places (holds args)) < 2 ^ 32)
+      (at + total (placed (λ n. 1) places (sizes args)) < 2 ^ 32)
+      × (L.base + stacked d (placed (λ n. 1) places (holds args)) < 2 ^ 32)
       × (L.base + d + length (placed (λ n. 1) places (holds args)) < 2 ^ 32) × AreLowerable L.params args
-  WorkFits (Elements items d at) = (at + items_size (sizes items) < 2 ^ 32) × (L.base + suc d + greatest (holds items) < 2 ^ 32) × AreLowerable L.params items
+  WorkFits (Elements items d at) =
+      (at + items_size (sizes items) < 2 ^ 32) × (L.base + suc d + greatest (holds items) < 2 ^ 32)
+      × AreLowerable L.params items
   WorkFits (Expand a at next out again) =
       (at + statement_size L.maker a < 2 ^ 32) × (L.base + 1 + greatest_in hold a < 2 ^ 32) × IsStatement L.params a
   WorkFits (ExpandAll all at next out again) =
-      (at + statements_size L.maker all < 2 ^ 32) × (L.base + 1 + greatest_of hold all < 2 ^ 32) × AreStatements L.params all
-  WorkFits (ExpandDeclarations each at) = (at + declared_size each < 2 ^ 32) × (L.base + 1 + greatest_first hold each < 2 ^ 32) × AreDeclared L.params each
+      (at + statements_size L.maker all < 2 ^ 32) × (L.base + 1 + greatest_of hold all < 2 ^ 32)
+      × AreStatements L.params all
+  WorkFits (ExpandDeclarations each at) =
+      (at + declared_size each < 2 ^ 32) × (L.base + 1 + greatest_first hold each < 2 ^ 32) × AreDeclared L.params each
 
   abbrev pub AllFit : List Work → Type 0
   AllFit [] = Unit {0}

@@ -91,10 +91,13 @@ module _ (L : Layout) where
   ops_of (Value a d at next) = code L.classes L.repeating L.params L.base a d at next
   ops_of (Reach x d at) = reach_code L.classes L.repeating L.params L.base x d at
   ops_of (Arguments places args d at) =
-      parts_code L.classes L.repeating L.params L.base (placed (number_part L.classes L.repeating L.params L.base) places (parts L.classes L.repeating L.params L.base args)) d at
-  ops_of (Elements items d at) = items_code L.classes L.repeating L.params L.base (parts L.classes L.repeating L.params L.base items) d at
+      parts_code L.classes L.repeating L.params L.base (placed (number_part L.classes L.repeating L.params L.base)
+      places (parts L.classes L.repeating L.params L.base args)) d at
+  ops_of (Elements items d at) =
+      items_code L.classes L.repeating L.params L.base (parts L.classes L.repeating L.params L.base items) d at
   ops_of (Expand a at next out again) = statement_code L.classes L.repeating L.params L.base L.maker a at next out again
-  ops_of (ExpandAll all at next out again) = statements_code L.classes L.repeating L.params L.base L.maker all at next out again
+  ops_of (ExpandAll all at next out again) =
+      statements_code L.classes L.repeating L.params L.base L.maker all at next out again
   ops_of (ExpandDeclarations each at) = declared_code L.classes L.repeating L.params L.base each at
 
   abbrev pub ops_of_all : List Work → List Op
@@ -110,7 +113,9 @@ module _ (L : Layout) where
 
   -- The pieces of the forms that go on in more than one way: `a && b`, `a || b`, and `test ? a : b`.
   abbrev pub both : TypedTree → TypedTree → (d at next : ℕ) → List Work
-  both a b d at next = (let behind = at + size a + 1 + 1 in valued a d at ∷ (Put (Branch (L.base + d) behind) ∷ (Put (Jump next) ∷ (Value b d behind next ∷ []))))
+  both a b d at next =
+      (let behind = at + size a + 1 + 1 in
+      valued a d at ∷ (Put (Branch (L.base + d) behind) ∷ (Put (Jump next) ∷ (Value b d behind next ∷ []))))
 
   abbrev pub either : TypedTree → TypedTree → (d at next : ℕ) → List Work
   either a b d at next = valued a d at ∷ (Put (Branch (L.base + d) next) ∷ (Value b d (at + size a + 1) next ∷ []))
@@ -118,7 +123,8 @@ module _ (L : Layout) where
   abbrev pub choice : TypedTree → TypedTree → TypedTree → (d at next : ℕ) → List Work
   choice test a b d at next =
       (let so = at + size test + 1 + size b + 1 in
-      valued test d at ∷ (Put (Branch (L.base + d) so) ∷ (Value b d (at + size test + 1) next ∷ (Put (Jump next) ∷ (Value a d so next ∷ [])))))
+      valued test d at ∷ (Put (Branch (L.base + d) so) ∷ (Value b d (at + size test + 1) next
+      ∷ (Put (Jump next) ∷ (Value a d so next ∷ [])))))
 
   -- of assignments, `++` and `--`
   abbrev pub assigned : TypedTree → TypedTree → (d at : ℕ) → List Work
@@ -135,16 +141,19 @@ module _ (L : Layout) where
 
   -- of calls, new objects and arrays
   abbrev pub called : Callee → TypedTrees → (d at : ℕ) → List Work
-  called f args d at = Arguments (places_of f) args d at ∷ puts (invokes f (handler_of args) d (passed_by f (how_many args)))
+  called f args d at =
+      Arguments (places_of f) args d at ∷ puts (invokes f (handler_of args) d (passed_by f (how_many args)))
 
   abbrev pub called_above : ℕ → TypedTrees → (d at : ℕ) → List Work
   called_above f args d at =
-      Put (Copy (L.base + d) 0) ∷ (Arguments [] args (suc d) (at + 1) ∷ (Put (Call (L.base + d) f (span (L.base + d) (suc (how_many args)) [])) ∷ []))
+      Put (Copy (L.base + d) 0) ∷ (Arguments [] args (suc d) (at + 1)
+      ∷ (Put (Call (L.base + d) f (span (L.base + d) (suc (how_many args)) [])) ∷ []))
 
   abbrev pub made : ℕ → TypedTrees → (d at : ℕ) → List Work
   made class args d at =
       (let object = L.base + (how_many args + d) in
-      Arguments [] args d at ∷ (Put (MakeObject object class) ∷ (Put (Call (L.base + d) (maker_of L.classes class) (object ∷ span (L.base + d) (how_many args) [])) ∷ [])))
+      Arguments [] args d at ∷ (Put (MakeObject object class)
+      ∷ (Put (Call (L.base + d) (maker_of L.classes class) (object ∷ span (L.base + d) (how_many args) [])) ∷ [])))
 
   abbrev pub listed : TypedTrees → (d at : ℕ) → List Work
   listed items d at = Put (MakeArray (L.base + d) (how_many items)) ∷ (Elements items d (at + 1) ∷ [])
@@ -158,7 +167,8 @@ module _ (L : Layout) where
   opened_value (e.This u) d at next = Put (Copy (L.base + d) 0) ∷ []
   opened_value (e.Name u x) d at next = Put (get_op L.params (L.base + d) x) ∷ []
   opened_value (e.Unary u op a) d at next = valued a d at ∷ (Put (Unary (L.base + d) op (L.base + d)) ∷ [])
-  opened_value (e.Binary u op a b) d at next = two a b d at ++ Put (Binary (L.base + d) op (L.base + d) (L.base + suc d)) ∷ []
+  opened_value (e.Binary u op a b) d at next =
+      two a b d at ++ Put (Binary (L.base + d) op (L.base + d) (L.base + suc d)) ∷ []
   opened_value (e.Both u a b) d at next = both a b d at next
   opened_value (e.Either u a b) d at next = either a b d at next
   opened_value (e.Choice u test a b) d at next = choice test a b d at next
@@ -194,7 +204,8 @@ module _ (L : Layout) where
   abbrev pub opened_elements : TypedTrees → (d at : ℕ) → List Work
   opened_elements e.none d at = []
   opened_elements (e.more a rest) d at =
-      Value a (suc d) at (at + size a) ∷ (Put (Ask (L.base + suc d) PUSH ((L.base + d) ∷ ((L.base + suc d) ∷ []))) ∷ (Elements rest d (at + size a + 1) ∷ []))
+      Value a (suc d) at (at + size a) ∷ (Put (Ask (L.base + suc d) PUSH ((L.base + d) ∷ ((L.base + suc d) ∷ [])))
+      ∷ (Elements rest d (at + size a + 1) ∷ []))
 
   -- of declared names
   abbrev pub opened_initial : Option TypedTree → (at : ℕ) → List Work
@@ -203,7 +214,9 @@ module _ (L : Layout) where
 
   abbrev pub opened_declarations : List TypedDeclaration → (at : ℕ) → List Work
   opened_declarations [] at = []
-  opened_declarations (d ∷ rest) at = opened_initial d.first at ++ (Put (set_op L.params (L.base + 0) d.name) ∷ (ExpandDeclarations rest (at + initial_size d.first + 1) ∷ []))
+  opened_declarations (d ∷ rest) at =
+      opened_initial d.first at ++ (Put (set_op L.params (L.base + 0) d.name)
+      ∷ (ExpandDeclarations rest (at + initial_size d.first + 1) ∷ []))
 
   -- of the parts of a `for`
   abbrev pub opened_first : OptionalTypedStatement → (at next out again : ℕ) → List Work
@@ -212,7 +225,8 @@ module _ (L : Layout) where
 
   abbrev pub opened_test : Option TypedTree → (at next : ℕ) → List Work
   opened_test None at next = []
-  opened_test (Some a) at next = valued a 0 at ∷ (Put (Branch (L.base + 0) (at + size a + 1 + 1)) ∷ (Put (Jump next) ∷ []))
+  opened_test (Some a) at next =
+      valued a 0 at ∷ (Put (Branch (L.base + 0) (at + size a + 1 + 1)) ∷ (Put (Jump next) ∷ []))
 
   abbrev pub opened_step : Option TypedTree → (at : ℕ) → List Work
   opened_step None at = []
@@ -224,12 +238,14 @@ module _ (L : Layout) where
 
   -- of the forms of statements
   abbrev pub if_only : TypedTree → TypedStatement → (at next out again : ℕ) → List Work
-  if_only test a at next out again = (let so = at + size test + 1 + 1 in tested test at so ++ (Put (Jump next) ∷ (Expand a so next out again ∷ [])))
+  if_only test a at next out again =
+      (let so = at + size test + 1 + 1 in tested test at so ++ (Put (Jump next) ∷ (Expand a so next out again ∷ [])))
 
   abbrev pub if_else : TypedTree → TypedStatement → TypedStatement → (at next out again : ℕ) → List Work
   if_else test a o at next out again =
       (let so = at + size test + 1 + statement_size L.maker o + 1 in
-      tested test at so ++ (Expand o (at + size test + 1) next out again ∷ (Put (Jump next) ∷ (Expand a so next out again ∷ []))))
+      tested test at so ++ (Expand o (at + size test + 1) next out again
+      ∷ (Put (Jump next) ∷ (Expand a so next out again ∷ []))))
 
   abbrev pub while_turns : TypedTree → TypedStatement → (at next : ℕ) → List Work
   while_turns test a at next =
@@ -240,7 +256,8 @@ module _ (L : Layout) where
   abbrev pub do_turns : TypedStatement → TypedTree → (at next : ℕ) → List Work
   do_turns a test at next =
       (let turn = at + statement_size L.maker a in
-      Expand a at turn next turn ∷ (tested test turn (turn + size test + 1 + 1) ++ (Put (Jump next) ∷ (Put (Jump at) ∷ []))))
+      Expand a at turn next
+      turn ∷ (tested test turn (turn + size test + 1 + 1) ++ (Put (Jump next) ∷ (Put (Jump at) ∷ []))))
 
   abbrev pub for_turns : Option TypedTree → Option TypedTree → TypedStatement → (at next : ℕ) → List Work
   for_turns test step a at next =
@@ -264,7 +281,8 @@ module _ (L : Layout) where
   opened_statement (e.While test a) at next out again = while_turns test a at next
   opened_statement (e.DoWhile a test) at next out again = do_turns a test at next
   opened_statement (e.For first test step a) at next out again =
-      (let loop = at + first_size L.maker first in opened_first first at loop out again ++ for_turns test step a loop next)
+      (let loop = at + first_size L.maker first in
+      opened_first first at loop out again ++ for_turns test step a loop next)
   opened_statement (e.ForOf fixed (Local i) list a) at next out again = item_turns i list a at next
   opened_statement (e.ForOf fixed (Param i) list a) at next out again = Put (Jump next) ∷ []
   opened_statement (e.ForOf fixed (Global g) list a) at next out again = Put (Jump next) ∷ []
@@ -314,4 +332,5 @@ routine_of classes repeating maker r =
 -- the functions of such a program, from number f on
 abbrev pub routines_of : List ClassEntry → (ℕ → ℕ) → ℕ → List TypedRoutine → List Function
 routines_of classes repeating f [] = []
-routines_of classes repeating f (r ∷ rest) = routine_of classes repeating (is_maker classes f) r ∷ routines_of classes repeating (suc f) rest
+routines_of classes repeating f (r ∷ rest) =
+    routine_of classes repeating (is_maker classes f) r ∷ routines_of classes repeating (suc f) rest

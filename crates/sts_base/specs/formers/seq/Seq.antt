@@ -38,10 +38,13 @@ the_items_listed X items = list-listed X items
 
 -- the one field, a `Vec` of the items
 abbrev vec_field : Former {0}
-vec_field = via (vec.the_former this Global) Inside (λ X inside. inside.items) (λ X held. record { items = held }) (λ X inside. refl) (λ X held. refl)
+vec_field =
+    via (vec.the_former this Global) Inside (λ X inside. inside.items) (λ X held. record { items = held })
+    (λ X inside. refl) (λ X held. refl)
 
 module _ (Old New : RattleType) (change : Old.Denot → New.Denot) where
-  pub the_places : Alike Old New change → Alike (outer.the_row Old) (outer.the_row New) ((the_former this).map Old.Denot New.Denot change)
+  pub the_places : Alike Old New change
+      → Alike (outer.the_row Old) (outer.the_row New) ((the_former this).map Old.Denot New.Denot change)
   the_places alike =
       view_places vec_field (list this) view (λ X Y k u. refl) (λ X u. refl) Old.Denot New.Denot change
       (outer.the_row Old).coded (outer.the_row New).coded (invariant Old.Denot) (invariant New.Denot)
@@ -50,5 +53,6 @@ module _ (Old New : RattleType) (change : Old.Denot → New.Denot) where
       (struct_places (inner.the_type Old) (inner.the_type New) (vec.mapped change, tt) _ (λ d. refl) refl
       (laid _ _ _ (vec.the_places heap.the_row ghosts Old New change alike), tt))
 
-  pub the_codes_placed : Recodes Old New change → Recodes (outer.the_row Old) (outer.the_row New) ((the_former this).map Old.Denot New.Denot change)
+  pub the_codes_placed : Recodes Old New change
+      → Recodes (outer.the_row Old) (outer.the_row New) ((the_former this).map Old.Denot New.Denot change)
   the_codes_placed recodes items = sym (code_map Old.coded.code New.coded.code change (λ x. sym (recodes x)) items)
