@@ -1,5 +1,6 @@
 -- An instruction's effect over a memory, whatever that is.
 use Rattle.std.specs.Prelude.{ℕ, min, List, [], ◌∷◌, map, Bool, true, false, if◌then◌else◌, Option, Some, None}
+use Rattle.std.specs.Option.{option_or}
 use Rattle.thumb_code.specs.declared.register_file.Registers.{Registers}
 use Rattle.thumb_code.specs.Faults.{stack_range}
 use Rattle.thumb_code.specs.Effect.{Outcome, Goes, Asks, Stops, Access, Effect}
@@ -18,15 +19,10 @@ pub data Executed (S : Type 0) : Type 0 where
   Asked : ℕ → Registers → S → Executed S
   Stopped : ℕ → Executed S
 
--- The first of two faults.
-abbrev pub first_of : Option ℕ → Option ℕ → Option ℕ
-first_of (Some k) o = Some k
-first_of None o = o
-
 -- The first fault of these accesses.
 abbrev pub first_fault : {S : Type 0} → Memory S → S → Bool → List Access → Option ℕ
 first_fault m t b [] = None
-first_fault m t b (a ∷ as') = first_of (m.fault t b a) (first_fault m t b as')
+first_fault m t b (a ∷ as') = option_or (m.fault t b a) (first_fault m t b as')
 
 -- What these accesses load, and the memory after it.
 abbrev pub load_all : {S : Type 0} → Memory S → S → List Access → List ℕ × S
@@ -69,4 +65,5 @@ after_move move (Stopped k) = Stopped k
 -- The same over a memory that is told where SP goes: for the accesses to the lower of its values before and
 -- after the instruction, and then to the value after it. A fault moves nothing.
 abbrev pub execute_moving : {S : Type 0} → Memory S → (S → ℕ → S) → S → ℕ → Effect → Executed S
-execute_moving m move t sp e = if m.has_sp t e.sp then after_move move (accessed m (move t (min sp e.sp)) e) else Stopped stack_range
+execute_moving m move t sp e =
+    if m.has_sp t e.sp then after_move move (accessed m (move t (min sp e.sp)) e) else Stopped stack_range
