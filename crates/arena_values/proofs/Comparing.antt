@@ -3,7 +3,7 @@ use Rattle.std.proofs.Common.{suc, ◌≡◌, ◌≢◌, ℕ, ◌+◌, ◌*◌, 
 use Rattle.std.specs.Prelude.{ℤ, pos, negsuc, int_lt, int_le}
 use Rattle.std.specs.Int.{cast_signed, w32}
 use Rattle.thumb_code.specs.Arithmetic.{sign, bit_of, inverted, sum_of, sum_flags}
-use Rattle.thumb_code.specs.Conditions.{is_not, holds}
+use Rattle.thumb_code.specs.Conditions.{holds}
 use Rattle.arena_values.proofs.Addresses.{which}
 use Rattle.arena_values.proofs.Signs.{signed_low, signed_high}
 
@@ -34,12 +34,8 @@ z_read d c true o a b = let e : (d * 8 + 1 * 4 + c * 2 + o) / 4 % 2 ≡ 1 = omeg
 z_read d c false o a b = let e : (d * 8 + 0 * 4 + c * 2 + o) / 4 % 2 ≡ 0 = omega arith in ap (λ n. n == 1) e
 
 -- and C
-c_read : (d z c o : ℕ) → z ≤ 1 → c ≤ 1 → o ≤ 1 → holds (d * 8 + z * 4 + c * 2 + o) 3 ≡ is_not (c == 1)
-c_read d z c o a b l = let e : (d * 8 + z * 4 + c * 2 + o) / 2 % 2 ≡ c = omega arith in ap (λ n. is_not (n == 1)) e
-
-not_is : (b : Bool) → is_not b ≡ not b
-not_is true = refl
-not_is false = refl
+c_read : (d z c o : ℕ) → z ≤ 1 → c ≤ 1 → o ≤ 1 → holds (d * 8 + z * 4 + c * 2 + o) 3 ≡ not (c == 1)
+c_read d z c o a b l = let e : (d * 8 + z * 4 + c * 2 + o) / 2 % 2 ≡ c = omega arith in ap (λ n. not (n == 1)) e
 
 module _ (v w : ℕ) (p : v < 2 ^ 32) (q : w < 2 ^ 32) where
   abbrev flags : ℕ
@@ -141,13 +137,13 @@ module _ (v w : ℕ) (p : v < 2 ^ 32) (q : w < 2 ^ 32) where
       same e = let f : (v == w) ≡ true = grind arith in let z : sum_of v (inverted w) 1 ≡ 0 = omega arith in equal_by true (grind arith) ∙ sym f
 
   pub words_unequal : holds flags 1 ≡ not (v == w)
-  words_unequal = ap is_not words_equal ∙ not_is (v == w)
+  words_unequal = ap not words_equal
 
   -- CC: without their signs the first is below the second
   pub words_below : holds flags 3 ≡ nat_lt v w
   words_below = ⊎_elim (λ l. let e : nat_lt v w ≡ true = grind arith in carry_by 0 (omega arith) (omega arith) ∙ sym e) (λ l. let e : nat_lt v w ≡ false = grind arith in carry_by 1 (omega arith) (omega arith) ∙ sym e) (which v w)
     where
-      carry_by : (c : ℕ) → (v + inverted w + 1) / 2 ^ 32 ≡ c → c ≤ 1 → holds flags 3 ≡ is_not (c == 1)
+      carry_by : (c : ℕ) → (v + inverted w + 1) / 2 ^ 32 ≡ c → c ≤ 1 → holds flags 3 ≡ not (c == 1)
       carry_by c e l =
           let a = sign v in let b = sign (inverted w) in let d = sign (sum_of v (inverted w) 1) in let zero = sum_of v (inverted w) 1 == 0 in
           let over = a == b && nat_lt (d + a) 2 && nat_lt 0 (d + a) in

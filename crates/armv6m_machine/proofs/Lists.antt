@@ -6,7 +6,8 @@ use lib.Count.{ones_step, ones as count_ones}
 use Rattle.std.proofs.Math.Nat.{pow-suc}
 use Rattle.thumb_code.specs.RegisterFile.{listed, listed_from, is_odd, word, values, low}
 use Rattle.thumb_code.specs.Forms.{word_accesses, access, Access, words_to}
-use Rattle.thumb_code.specs.Memory.{Memory, first_fault, first_of, store_all}
+use Rattle.std.specs.Option.{option_or}
+use Rattle.thumb_code.specs.Memory.{Memory, first_fault, store_all}
 use Rattle.armv6m_machine.specs.Transfers.{loaded}
 use Rattle.thumb_code.specs.declared.register_file.Registers.{Registers}
 
@@ -92,7 +93,7 @@ loaded_odd m r t at k l h o =
 pub loaded_end : {S : Type 0} (m : Memory S) (r : List ℕ) (t : S) (at k l : ℕ) → 8 ≤ k → loaded m r t at (left k l) ≡ (r, t)
 loaded_end m r t at k l h = let e = left_end k l h in rw e refl
 
-pub both_free : (o p : Option ℕ) → first_of o p ≡ None → (o ≡ None) × (p ≡ None)
+pub both_free : (o p : Option ℕ) → option_or o p ≡ None → (o ≡ None) × (p ≡ None)
 both_free (Some k) p h = cc
 both_free None p h = (refl, h)
 

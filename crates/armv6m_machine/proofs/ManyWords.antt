@@ -4,7 +4,8 @@ use Rattle.std.proofs.lemmas.List.{get_or-append_right}
 use Rattle.thumb_code.specs.declared.register_file.Registers.{Registers}
 use Rattle.thumb_code.specs.RegisterFile.{word, low, values, filled, is_odd}
 use Rattle.thumb_code.specs.Forms.{Access, access, word_accesses, words_to, pushes, pops, stores_many}
-use Rattle.thumb_code.specs.Memory.{Memory, first_of, first_fault, load_all, store_all}
+use Rattle.std.specs.Option.{option_or}
+use Rattle.thumb_code.specs.Memory.{Memory, first_fault, load_all, store_all}
 use Rattle.armv6m_machine.specs.declared.faults.Fault.{Fault as FaultKind}
 use Rattle.armv6m_machine.specs.declared.faults.Fault.TheVariants.{StackRange, NotThumb}
 use Rattle.armv6m_machine.specs.declared.faults.Turn.TheVariants.{Went, Fault}
@@ -30,11 +31,11 @@ words_to_more (v ∷ vs) at w =
     let i = words_to_more vs (at + 4) w in
     ap (λ ps. (access at 4, v) ∷ ps) (rw p at i)
 
-assoc : (o p q : Option ℕ) → first_of o (first_of p q) ≡ first_of (first_of o p) q
+assoc : (o p q : Option ℕ) → option_or o (option_or p q) ≡ option_or (option_or o p) q
 assoc (Some k) p q = refl
 assoc None p q = refl
 
-pub first_fault-append : {S : Type 0} (m : Memory S) (t : S) (b : Bool) (xs ys : List Access) → first_fault m t b (xs ++ ys) ≡ first_of (first_fault m t b xs) (first_fault m t b ys)
+pub first_fault-append : {S : Type 0} (m : Memory S) (t : S) (b : Bool) (xs ys : List Access) → first_fault m t b (xs ++ ys) ≡ option_or (first_fault m t b xs) (first_fault m t b ys)
 first_fault-append m t b [] ys = refl
 first_fault-append m t b (x ∷ xs) ys = let i = first_fault-append m t b xs ys in rw i (assoc (m.fault t b x) (first_fault m t b xs) (first_fault m t b ys))
 
@@ -70,7 +71,7 @@ loads_keep m keeps (a ∷ xs) t w x = loads_keep m keeps xs (m.load t a).1 w x �
 pub more_free : {S : Type 0} (m : Memory S) (t : S) (b : Bool) (at n : ℕ) → first_fault m t b (word_accesses at (n + 1)) ≡ None
     → (first_fault m t b (word_accesses at n) ≡ None) × (m.fault t b (access (at + 4 * n) 4) ≡ None)
 more_free m t b at n h =
-    let s : first_of (first_fault m t b (word_accesses at n)) (first_fault m t b (access (at + 4 * n) 4 ∷ [])) ≡ None = sym (first_fault-append m t b (word_accesses at n) (access (at + 4 * n) 4 ∷ [])) ∙ ap (λ as'. first_fault m t b as') (sym (words_from_more n at)) ∙ h in
+    let s : option_or (first_fault m t b (word_accesses at n)) (first_fault m t b (access (at + 4 * n) 4 ∷ [])) ≡ None = sym (first_fault-append m t b (word_accesses at n) (access (at + 4 * n) 4 ∷ [])) ∙ ap (λ as'. first_fault m t b as') (sym (words_from_more n at)) ∙ h in
     let p = both_free _ _ s in
     (p.0, (both_free _ _ p.1).0)
 

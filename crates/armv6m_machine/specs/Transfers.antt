@@ -1,13 +1,13 @@
 -- Loads and stores of one item at a given access, and loads of several words.
-use Rattle.std.specs.Prelude.{ℕ, ◌*◌, ◌%◌, ◌^◌, List, [], ◌∷◌, length, slice_set}
+use Rattle.std.specs.Prelude.{ℕ, ◌*◌, ◌%◌, ◌^◌, List, [], ◌∷◌, length, slice_index, slice_set}
 use Rattle.thumb_code.specs.declared.register_file.Registers.{Registers}
 use Rattle.thumb_code.specs.RegisterFile.{low, filled}
 use Rattle.thumb_code.specs.Memory.{Memory, load_all}
-use Rattle.thumb_code.specs.Forms.{Effect, Access, Goes, first_word, word_accesses}
+use Rattle.thumb_code.specs.Forms.{Effect, Access, Goes, word_accesses}
 
 -- What stands there goes into a low register, through f.
 abbrev pub load_from : ℕ → Registers → ℕ → (ℕ → ℕ) → Access → Effect
-load_from next s rt f a = record { sp = s.sp; loads = a ∷ []; stores = []; after = λ ws. Goes (record s { r = slice_set s.r rt (f (first_word ws)); pc = next }) }
+load_from next s rt f a = record { sp = s.sp; loads = a ∷ []; stores = []; after = λ ws. Goes (record s { r = slice_set s.r rt (f (slice_index ws 0)); pc = next }) }
 
 -- The low bytes of a low register go there.
 abbrev pub store_to : ℕ → Registers → ℕ → Access → Effect

@@ -4,7 +4,8 @@ use Rattle.std.proofs.lemmas.List.{drop-set-lt}
 use Rattle.std.proofs.lemmas.Bool.Decides.{nat_tests}
 use Rattle.thumb_code.specs.declared.register_file.Registers.{Registers}
 use Rattle.thumb_code.specs.Effect.{effect, Access, Effect, Outcome, Goes, Asks, Stops}
-use Rattle.thumb_code.specs.Memory.{Executed, Done, Asked, Stopped, or_else, first_of, first_fault, load_all, store_all, finished, execute}
+use Rattle.std.specs.Option.{option_or}
+use Rattle.thumb_code.specs.Memory.{Executed, Done, Asked, Stopped, or_else, first_fault, load_all, store_all, finished, execute}
 use Rattle.thumb_code.specs.Faults.{above_base, out_of_map, unaligned}
 use Rattle.thumb_code.specs.Map.{stack_at, arena_at, globals_at, ram_end, access_fault, merged, in_ram, is_base}
 use Rattle.thumb_code.specs.Ram.{Ram, ram_memory, ram_store}
@@ -48,7 +49,7 @@ module _ (m : Ram) (b : IsBase m.base) where
             above = drop-set-lt ((m.base - stack_at) / 4) t.stack ((a.at - stack_at) / 4) _ p ∙ h.above;
           }
 
-  none_first : (o p : Option ℕ) → first_of o p ≡ None → (o ≡ None) × (p ≡ None)
+  none_first : (o p : Option ℕ) → option_or o p ≡ None → (o ≡ None) × (p ≡ None)
   none_first None p e = (refl, e)
   none_first (Some k) p e = absurd (cc)
 

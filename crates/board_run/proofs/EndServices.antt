@@ -6,7 +6,8 @@ use Rattle.board_world.specs.declared.events.Event.{Event}
 use Rattle.board_world.specs.Limits.{raiser_limit}
 use Rattle.board_world.specs.Panics.{raiser_panic}
 use Rattle.board_world.specs.Observations.{Panicked}
-use Rattle.board_world.specs.Waiting.{handler_of, held_by, some_of, none, how_many}
+use Rattle.std.specs.List.{list_any}
+use Rattle.board_world.specs.Waiting.{handler_of, held_by, none, how_many}
 use Rattle.board_world.specs.Activities.{Activity, World, handlers, is_of, is_number}
 use Rattle.board_world.specs.Kinds.{Ends, RaisesNow}
 use Rattle.board_world.specs.World.{acted, leaves, ends_with, stops}
@@ -156,7 +157,7 @@ module _ (e : Engine) (inside : IsInside e.runtime.machine.registers.sp e.runtim
   abbrev bus_heard : BusState
   bus_heard = record e.bus { listeners = map (heard x) e.bus.listeners }
 
-  pub nest_serves : (s1 s2 : State) (bus' : BusState) (places' : List PendingDispatch) → true ≡ some_of (begins_new x) e.bus.listeners → length e.runtime.raisers < raiser_limit
+  pub nest_serves : (s1 s2 : State) (bus' : BusState) (places' : List PendingDispatch) → true ≡ list_any (begins_new x) e.bus.listeners → length e.runtime.raisers < raiser_limit
       → ((t : Turning) → e.runtime.running ≡ Some t → s1 ≡ suspended t e.runtime) → Woken x s1 s2 → bus' ≡ bus_heard → places' ≡ place_for x e.bus.listeners ∷ e.places
       → (at : ℕ) → IsServed (λ image. service image at 23) (Goes Nothing) e (record e { runtime = s2; bus = bus'; places = places' })
   nest_serves s1 s2 bus' places' some room nests k ib ip at = λ image t runs w h.
@@ -174,7 +175,7 @@ module _ (e : Engine) (inside : IsInside e.runtime.machine.registers.sp e.runtim
       let all : P (V x (shared_on e.arena m.memory w.shared.free)) = (y2, rw (any, few) refl, rw (any, few) refl, rw (any, few) (meets_nothing w.board _ refl refl)) in
       subst (λ z. P (V z w.shared)) is_event (subst (λ s. P (V x s)) (sym (shared_is image b t runs w h)) all)
 
-  pub wake_serves : (s2 : State) (bus' : BusState) → false ≡ some_of (begins_new x) e.bus.listeners → Woken x e.runtime s2 → bus' ≡ bus_heard
+  pub wake_serves : (s2 : State) (bus' : BusState) → false ≡ list_any (begins_new x) e.bus.listeners → Woken x e.runtime s2 → bus' ≡ bus_heard
       → (at : ℕ) → IsServed (λ image. service image at 23) (Goes Nothing) e (record e { runtime = s2; bus = bus' })
   wake_serves s2 bus' nobody k ib at = λ image t runs w h.
       let b = state_of e in
@@ -188,7 +189,7 @@ module _ (e : Engine) (inside : IsInside e.runtime.machine.registers.sp e.runtim
       let all : P (V x (shared_on e.arena m.memory w.shared.free)) = (y2, rw empty refl, rw empty refl, rw empty (meets_nothing w.board _ refl refl)) in
       subst (λ z. P (V z w.shared)) is_event (subst (λ s. P (V x s)) (sym (shared_is image b t runs w h)) all)
 
-  pub refuse_nest : true ≡ some_of (begins_new x) e.bus.listeners → raiser_limit ≤ length e.runtime.raisers → (at : ℕ) (image : List ℕ) → StopsAt image (service image at 23) (Panicked raiser_panic) (state_of e)
+  pub refuse_nest : true ≡ list_any (begins_new x) e.bus.listeners → raiser_limit ≤ length e.runtime.raisers → (at : ℕ) (image : List ℕ) → StopsAt image (service image at 23) (Panicked raiser_panic) (state_of e)
   refuse_nest some deep at image = λ t runs w h.
       let b = state_of e in
       let m = e.runtime.machine in

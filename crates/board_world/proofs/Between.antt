@@ -10,7 +10,8 @@ use Rattle.board_world.specs.Activities.{Activity, World}
 use Rattle.board_world.specs.World.{idled, idle_bound, goes_on, stops, acted, stepped, tick}
 use Rattle.board_world.specs.Runs.{run}
 use Rattle.board_world.specs.Simulation.{Paired, Kept, Ties, Same, Rest, Alike, Matches, Path, one, always}
-use Rattle.board_world.specs.Trailing.{Comes, Completes, Trails, TrailingSimulation}
+use Rattle.board_world.specs.Trailing.{Comes, Completes, Trails}
+use Rattle.board_world.proofs.Trailing.{TrailingSimulation}
 use Rattle.board_world.proofs.Stays.{over_stays, busy_stays}
 use Rattle.board_world.proofs.Pairs.{paired_weaken}
 use Rattle.board_world.proofs.Compose.{Way, way_on}

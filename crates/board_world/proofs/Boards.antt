@@ -3,18 +3,32 @@ use Rattle.std.proofs.Common.{◌≡◌, ℕ, zero, suc, ◌+◌, ◌-◌, max, 
 use Rattle.board_world.specs.declared.events.Event.{Event}
 use Rattle.board_world.specs.declared.clock.Idle.{Idle}
 use Rattle.board_world.specs.declared.clock.Idle.TheVariants.{Jump, Quiet, Script}
-use Rattle.board_world.specs.Observations.{Quietly, By_script, Panicked, Faulted, Show, Serial, Pin, Radio}
+use Rattle.board_world.specs.Observations.{Observation, End, Quietly, By_script, Panicked, Faulted, Show, Serial, Pin, Radio}
 use Rattle.board_world.specs.Rules.{clock_move}
 use Rattle.board_world.specs.Frame.{plotted}
-use Rattle.board_world.specs.Board.{Board, Entry, Act, Down, Up, Raise, Unplug, over, raised, arrive, arrive_all, next_entry, went_down, went_up, held_since}
+use Rattle.board_world.specs.Board.{Board, Entry, ended_by, Act, Down, Up, Raise, Unplug, over, raised, arrive, arrive_all, next_entry, went_down, went_up, held_since}
 use Rattle.board_world.specs.Kinds.{Kind, Turn, Goes, Asks, Takes, Pauses, Waits, Spawns, Listens, RaisesNow, Ends, Panics, Faults, Question, answer, showed, Raises, Plots, Displays, Writes, Sets, Sends, Time, Value, Pressed, was_set, level}
 use Rattle.board_world.specs.Waiting.{least, how_many, none, held_by}
 use Rattle.board_world.specs.Activities.{Activity, World, handlers}
 use Rattle.board_world.specs.World.{moved, clock_moves, idle_while, idle_bound, lacks_seat, blocks, leaves, ends_with, ends, acted, stepped}
 use Rattle.board_world.specs.Runs.{run}
-use Rattle.board_world.specs.Invariants.{FaultsWithin, Closed, SoundEnd, Extends}
+use Rattle.board_world.specs.Invariants.{MayEnd, FaultsWithin, SoundEnd, Extends}
 use Rattle.std.proofs.lemmas.List.{append-nil}
 use Rattle.board_world.proofs.Stays.{if_keeps, run_sum}
+
+-- a property of the board that holds on however the world changes one of its parts
+pub record Closed (Fine : ℕ → ℕ → Type 0) (P : Board → Type 0) : Type 0 where
+  pub queue : (b : Board) (q : List Event) → P b → P (record b { queue = q })
+  pub a_since : (b : Board) (since : Option ℕ) → P b → P (record b { a_since = since })
+  pub b_since : (b : Board) (since : Option ℕ) → P b → P (record b { b_since = since })
+  pub script : (b : Board) (es : List Entry) → P b → P (record b { script = es })
+  pub clock : (b : Board) (t : ℕ) → P b → P (record b { clock = t })
+  pub seen : (b : Board) (frame : ℕ) (o : Observation) → P b → P (record b { frame = frame; seen = b.seen ++ o ∷ [] })
+  pub unplugged : (b : Board) (u : ℕ × ℕ) → P b → P (record b { unplugged = b.unplugged ++ u ∷ [] })
+  pub used : (b : Board) (n : ℕ) → P b → P (record b { used = n })
+  pub counts : (b : Board) (seats spawned blocked words most : ℕ) → P b
+      → P (record b { seats = seats; spawned = spawned; blocked = blocked; words = words; most = most })
+  pub ends : (b : Board) (e : End) → MayEnd Fine e → P b → P (ended_by b e)
 
 module _ (Fine : ℕ → ℕ → Type 0) (P : Board → Type 0) (closed : Closed Fine P) where
   kept_raised : (e : Event) (b : Board) → P b → P (raised e b)

@@ -4,6 +4,7 @@ mod Stays
 mod Pairs
 mod Lift
 mod Compose
+mod Trailing
 mod Trails
 mod Between
 mod ByList

@@ -9,14 +9,24 @@ use Rattle.board_world.specs.Runs.{Arrival, acts, acts_at, run_with, Rises, Keep
 use Rattle.board_world.specs.Invariants.{FaultsWithin, SoundEnd}
 use Rattle.board_world.specs.Simulation.{Ties, Onward, Going, Listening, Begins, Matches, Follows, Simulation, Alike, one, always}
 use Rattle.board_world.specs.Composed.{level}
-use Rattle.board_world.specs.Sound.{NoFault, PartialSimulation, Typing, After, Further, Ready, Stays, Sound, within}
+use Rattle.board_world.specs.Sound.{NoFault, PartialSimulation, Typing, After, Further, Ready, Stays, Sound}
 use Rattle.board_world.specs.Implements.{Implements, boards_from}
-use Rattle.board_world.specs.Trailing.{TrailingSimulation, PartialTrailingSimulation}
+use Rattle.board_world.specs.Trailing.{PartialTrailingSimulation}
+use Rattle.board_world.proofs.Trailing.{TrailingSimulation}
 use Rattle.board_world.proofs.Trails.{partial_trails_by_nothing}
 use Rattle.board_world.proofs.Stays.{if_keeps}
 use Rattle.board_world.proofs.Boards.{kept_run, kept_arrive, sound_closed}
 use Rattle.board_world.proofs.Arrive.{lifts_with, trailing_lifts_with}
 use Rattle.board_world.proofs.ByList.{rises_from}
+
+-- ties between typed states
+abbrev within : {A S C D : Type 0} → Typing A S → Ties A S C D → Ties A S C D
+within I T =
+    record {
+      Shared = λ used s t. I.Shared used s × T.Shared used s t;
+      Active = λ s t a c. I.Active s a × T.Active s t a c;
+      Code = λ f g. I.Code f × T.Code f g;
+    }
 
 pub stays_runs : {A S : Type 0} (I : Typing A S) (used : ℕ) (s : S) (u : Turn A S) → Stays I used s u → NoFault u
 stays_runs I used s (Faults k a) h = h

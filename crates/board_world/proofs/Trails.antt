@@ -4,7 +4,8 @@ use Rattle.board_world.specs.Kinds.{Kind, Turn, Goes, Asks, Takes, Pauses, Waits
 use Rattle.board_world.specs.Simulation.{Ties, Onward, Matches, Path, Follows, Simulation}
 use Rattle.board_world.specs.Composed.{seen, joined_seen}
 use Rattle.board_world.specs.Sound.{NoFault, PartialSimulation}
-use Rattle.board_world.specs.Trailing.{Comes, Completes, TrailsWithin, TrailingSimulation, PartialTrailingSimulation}
+use Rattle.board_world.specs.Trailing.{Comes, Completes, TrailsWithin, PartialTrailingSimulation}
+use Rattle.board_world.proofs.Trailing.{TrailingSimulation}
 use Rattle.board_world.proofs.Compose.{Way, way_on, way_step, no_fault_below, goes_matched, onward_trans, matches_on, begins_joined}
 
 module _ {C D : Type 0} (L : Kind C D) (weight : C → D → ℕ) (r : ℕ) where

@@ -1,9 +1,9 @@
 -- Runs that stop before a moment, and scripts with more entries behind.
-use Rattle.std.specs.Prelude.{ℕ, zero, suc, ◌≤◌, Bool, true, false, not, ◌&&◌, if◌then◌else◌, nat_lt, List, [], ◌∷◌, ◌++◌, Option, Some, None, All}
+use Rattle.std.specs.Prelude.{ℕ, zero, suc, ◌≤◌, Bool, true, false, not, ◌&&◌, if◌then◌else◌, nat_lt, List, [], ◌∷◌, ◌++◌, Option, Some, All}
 use Rattle.board_world.specs.declared.events.Event.{Event}
 use Rattle.board_world.specs.declared.clock.Idle.{Idle}
-use Rattle.board_world.specs.declared.clock.Idle.TheVariants.{Jump, Quiet, Script}
-use Rattle.board_world.specs.Observations.{End, Quietly, By_script, Panicked, Faulted}
+use Rattle.board_world.specs.declared.clock.Idle.TheVariants.{Jump}
+use Rattle.board_world.specs.Observations.{End, Quietly, By_script}
 use Rattle.board_world.specs.Rules.{clock_move}
 use Rattle.board_world.specs.Board.{Board, Entry, over, next_entry}
 use Rattle.board_world.specs.Waiting.{least}
@@ -39,17 +39,14 @@ then_later later w = record w { board = board_then later w.board }
 
 -- whether the clock ended the run: nothing was left to come before the script's end, or at all
 abbrev pub is_by_clock : Option End → Bool
-is_by_clock None = false
 is_by_clock (Some Quietly) = true
 is_by_clock (Some By_script) = true
-is_by_clock (Some (Panicked code)) = false
-is_by_clock (Some (Faulted kind address)) = false
+is_by_clock _ = false
 
 -- whether the clock goes to a moment before t
 abbrev pub is_jump_before : ℕ → Idle → Bool
 is_jump_before t (Jump s) = nat_lt s t
-is_jump_before t Quiet = false
-is_jump_before t Script = false
+is_jump_before t _ = false
 
 -- whether the next idle move comes before t: an event is queued, or the clock goes to a moment before t
 abbrev pub moves_before : {A S : Type 0} → ℕ → List Event → World A S → Bool
@@ -59,10 +56,10 @@ moves_before t [] w = is_jump_before t (clock_move (least w.sleepers) (next_entr
 module _ {A S : Type 0} (K : Kind A S) (t : ℕ) where
   -- idle moves before t while no activity is ready, at most n
   abbrev pub idle_before : ℕ → List (Activity A) → World A S → World A S
-  idle_before zero ready w = w
-  idle_before (suc n) (a ∷ rest) w = w
   idle_before (suc n) [] w =
-      if not (over w.board) && moves_before t w.board.queue w then (let v = moved K w.board.queue w in idle_before n v.ready v) else w
+      if not (over w.board) && moves_before t w.board.queue w
+      then (let v = moved K w.board.queue w in idle_before n v.ready v) else w
+  idle_before _ _ w = w
 
   -- all that are due
   abbrev pub idled_before : World A S → World A S

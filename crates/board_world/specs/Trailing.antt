@@ -1,7 +1,7 @@
 -- Simulations whose lower activity may have steps of its own still to make behind its turn, before it is tied again.
 use Rattle.std.specs.Prelude.{◌≡◌, ℕ, ◌+◌, ◌≤◌, ℤ}
 use Rattle.board_world.specs.Limits.{arena_limit}
-use Rattle.board_world.specs.Kinds.{Kind, Turn, Goes, Asks, Takes, Pauses, Waits, Spawns, Listens, RaisesNow, Ends, Panics, Faults}
+use Rattle.board_world.specs.Kinds.{Kind, Turn, Goes, Asks, Takes, Spawns, Listens}
 use Rattle.board_world.specs.Simulation.{Ties, Path, Matches}
 use Rattle.board_world.specs.Sound.{NoFault}
 
@@ -13,22 +13,19 @@ module _ {C D : Type 0} (L : Kind C D) (weight : C → D → ℕ) (r : ℕ) wher
     pub few : cost ≤ r
     pub path : Path L weight steps cost x.0 x.1 y.0 y.1
 
-  -- A turn, and what it is once the activity that made it has come so far. Only one that keeps the turn goes on at once.
+  -- A turn, and what it is once the activity that made it has come so far. Only one that keeps the turn goes on at
+  -- once.
   abbrev pub Completes : ℕ → Turn C D → Turn C D → Type 0
   Completes used (Goes c u) y = (d : C) × (v : D) × (y ≡ Goes d v) × Comes (c, u) (d, v)
   Completes used (Asks q f) y = (g : ℤ → C × D) × (y ≡ Asks q g) × ((n : ℤ) → Comes (f n) (g n))
   Completes used (Takes n f) y = (g : ℕ → C × D) × (y ≡ Takes n g) × (used + n ≤ arena_limit → Comes (f used) (g used))
   Completes used (Spawns f c u) y = (d : C) × (v : D) × (y ≡ Spawns f d v) × Comes (c, u) (d, v)
   Completes used (Listens l c u) y = (d : C) × (v : D) × (y ≡ Listens l d v) × Comes (c, u) (d, v)
-  Completes used (Pauses n c u) y = Pauses n c u ≡ y
-  Completes used (Waits e c u) y = Waits e c u ≡ y
-  Completes used (RaisesNow e f c u) y = RaisesNow e f c u ≡ y
-  Completes used (Ends f u) y = Ends f u ≡ y
-  Completes used (Panics code) y = Panics code ≡ y
-  Completes used (Faults kind address) y = Faults kind address ≡ y
+  Completes used turn y = turn ≡ y
 
 module _ {A S C D : Type 0} (K : Kind A S) (L : Kind C D) (T : Ties A S C D) (weight : C → D → ℕ) (r : ℕ) where
-  -- from b with t the lower kind does what a does with s in one step, in steps that weigh at most this much, and some behind its turn
+  -- from b with t the lower kind does what a does with s in one step, in steps that weigh at most this much, and some
+  -- behind its turn
   pub record Trails (bound : ℕ) (used : ℕ) (s : S) (t₀ : D) (a : A) (b : C) (t : D) : Type 0 where
     pub steps : ℕ
     pub cost : ℕ
@@ -46,12 +43,10 @@ module _ {A S C D : Type 0} (K : Kind A S) (L : Kind C D) (T : Ties A S C D) (we
     pub fits : room + r ≤ bound
     pub trails : Trails room used s t a b t
 
--- L does what K does, and may trail behind a turn by steps that weigh at most r
-pub record TrailingSimulation {A S C D : Type 0} (K : Kind A S) (L : Kind C D) (T : Ties A S C D) (weight : C → D → ℕ) (r : ℕ) (bound : A → S → ℕ) : Type 0 where
-  pub begins : (used : ℕ) (s : S) (t : D) (f g : ℕ) → T.Shared used s t → T.Code f g → T.Active s t (K.begin f) (L.begin g)
-  pub follows : (used : ℕ) (s : S) (t : D) (a : A) (b : C) → T.Shared used s t → T.Active s t a b → TrailsWithin K L T weight r (bound a s) used s t a b
-
--- L does what K does in a step that isn't a fault
-pub record PartialTrailingSimulation {A S C D : Type 0} (K : Kind A S) (L : Kind C D) (T : Ties A S C D) (weight : C → D → ℕ) (r : ℕ) (bound : A → S → ℕ) : Type 0 where
-  pub begins : (used : ℕ) (s : S) (t : D) (f g : ℕ) → T.Shared used s t → T.Code f g → T.Active s t (K.begin f) (L.begin g)
-  pub follows : (used : ℕ) (s : S) (t : D) (a : A) (b : C) → T.Shared used s t → T.Active s t a b → NoFault (K.step a s) → TrailsWithin K L T weight r (bound a s) used s t a b
+-- L does what K does in a step that isn't a fault, and may trail behind a turn by steps that weigh at most r
+pub record PartialTrailingSimulation {A S C D : Type 0} (K : Kind A S) (L : Kind C D) (T : Ties A S C D)
+    (weight : C → D → ℕ) (r : ℕ) (bound : A → S → ℕ) : Type 0 where
+  pub begins : (used : ℕ) (s : S) (t : D) (f g : ℕ) → T.Shared used s t → T.Code f g
+      → T.Active s t (K.begin f) (L.begin g)
+  pub follows : (used : ℕ) (s : S) (t : D) (a : A) (b : C) → T.Shared used s t → T.Active s t a b
+      → NoFault (K.step a s) → TrailsWithin K L T weight r (bound a s) used s t a b

@@ -4,7 +4,7 @@ use Rattle.std.specs.Int.{IsBitSet, bit_at}
 use Rattle.std.proofs.lemmas.Nat.{bit_set_by_shift}
 use Rattle.std.proofs.lemmas.Nat.Bits.{bit_at-suc, bit_at-zero, bit_at_lowest, shr_and_one}
 use Rattle.board_world.specs.declared.events.Event.{Event}
-use Rattle.board_world.specs.Waiting.{some_of}
+use Rattle.std.specs.List.{list_any}
 use Rattle.message_bus.specs.ListenerState.{ListenerState, begins_new}
 use Rattle.message_bus.specs.BusState.{begun_bits, AtListener, changed, held_at, alive_at}
 
@@ -71,9 +71,9 @@ module _ (e : Event) where
       (λ h. set.0 (shift.1 h), λ h. shift.0 (set.1 h))
 
   -- some bit is set where some listener begins a new activity
-  pub some-bit : (ls : List ListenerState) → IsTrue (some_of (begins_new e) ls) ↔ (0 < begun_bits e ls)
+  pub some-bit : (ls : List ListenerState) → IsTrue (list_any (begins_new e) ls) ↔ (0 < begun_bits e ls)
   some-bit [] = (λ h. absurd (cc), λ h. absurd (omega arith))
-  some-bit (l ∷ ls) = by_first (begins_new e l) (some_of (begins_new e) ls) (begun_bits e ls) (some-bit ls)
+  some-bit (l ∷ ls) = by_first (begins_new e l) (list_any (begins_new e) ls) (begun_bits e ls) (some-bit ls)
     where
       by_first : (b c : Bool) (m : ℕ) → IsTrue c ↔ (0 < m) → IsTrue (b || c) ↔ (0 < (if b then 1 else 0) + 2 * m)
       by_first true c m h = (λ k. omega arith, λ k. refl)

@@ -1,7 +1,8 @@
 -- How many of a list pass a test.
 use Rattle.std.proofs.Common.{◌≡◌, ℕ, zero, suc, ◌+◌, Bool, true, false, not, ◌||◌, ◌==◌, if◌then◌else◌, List, [], ◌∷◌, ◌++◌, map, refl, arith}
 use Rattle.std.proofs.lemmas.Bool.Decides.{nat_tests}
-use Rattle.board_world.specs.Waiting.{some_of, how_many, chosen, left}
+use Rattle.std.specs.List.{list_any}
+use Rattle.board_world.specs.Waiting.{how_many, chosen, left}
 
 abbrev pub is_zero : ℕ → Bool
 is_zero zero = true
@@ -22,11 +23,11 @@ module _ {X : Type 0} (test : X → Bool) where
       by_test true h = omega (arith, h)
       by_test false h = h
 
-  pub none-many : (xs : List X) → not (some_of test xs) ≡ is_zero (how_many test xs)
+  pub none-many : (xs : List X) → not (list_any test xs) ≡ is_zero (how_many test xs)
   none-many [] = refl
   none-many (x ∷ xs) = by_test (test x) (none-many xs)
     where
-      by_test : (c : Bool) → not (some_of test xs) ≡ is_zero (how_many test xs) → not (c || some_of test xs) ≡ is_zero (if c then suc (how_many test xs) else how_many test xs)
+      by_test : (c : Bool) → not (list_any test xs) ≡ is_zero (how_many test xs) → not (c || list_any test xs) ≡ is_zero (if c then suc (how_many test xs) else how_many test xs)
       by_test true h = refl
       by_test false h = h
 

@@ -6,7 +6,8 @@ use Rattle.board_world.specs.declared.events.Event.{Event}
 use Rattle.board_world.specs.declared.events.Listener.{Listener}
 use Rattle.board_world.specs.Limits.{held_limit}
 use Rattle.board_world.specs.Modes.{drops_if_busy}
-use Rattle.board_world.specs.Waiting.{some_of, how_many, none}
+use Rattle.std.specs.List.{list_any}
+use Rattle.board_world.specs.Waiting.{how_many, none}
 use Rattle.board_world.specs.Activities.{Activity, World, is_of, busy, begins_for, handlers, holds, holding}
 use Rattle.message_bus.specs.ListenerState.{fresh, ListenerState, wants, begins_new, holds_it, with_held, heard, ended}
 use Rattle.message_bus.specs.BusState.{changed, alive_at}
@@ -110,12 +111,12 @@ module _ {A S : Type 0} (e : Event) (w : World A S) where
       rw (first, others) refl
 
 -- whether a listener begins a new activity is whether the world has one for the event
-pub none-begun : {A : Type 0} (make : ℕ → A) (e : Event) (i : ℕ) (ls : List ListenerState) → none (begun make e i ls) ≡ not (some_of (begins_new e) ls)
+pub none-begun : {A : Type 0} (make : ℕ → A) (e : Event) (i : ℕ) (ls : List ListenerState) → none (begun make e i ls) ≡ not (list_any (begins_new e) ls)
 none-begun make e i [] = refl
 none-begun {A} make e i (l ∷ ls) = by_first (begins_new e l) (none-begun make e (suc i) ls)
   where
-    by_first : (c : Bool) → none (begun make e (suc i) ls) ≡ not (some_of (begins_new e) ls)
-        → none (if c then record { self = make l.hearing.listener.handler; value = e.value; listener = Some i; seated = false; suspended = false } ∷ begun make e (suc i) ls else begun make e (suc i) ls) ≡ not (c || some_of (begins_new e) ls)
+    by_first : (c : Bool) → none (begun make e (suc i) ls) ≡ not (list_any (begins_new e) ls)
+        → none (if c then record { self = make l.hearing.listener.handler; value = e.value; listener = Some i; seated = false; suspended = false } ∷ begun make e (suc i) ls else begun make e (suc i) ls) ≡ not (c || list_any (begins_new e) ls)
     by_first true h = refl
     by_first false h = h
 

@@ -4,7 +4,8 @@ use Rattle.std.proofs.lemmas.Bool.Decides.{nat_tests}
 use Rattle.board_world.specs.declared.events.Event.{Event}
 use Rattle.board_world.specs.declared.events.Listener.{Listener}
 use Rattle.board_world.specs.Limits.{arena_limit, listener_limit, pin_limit, queue_limit, raiser_limit, seat_limit}
-use Rattle.board_world.specs.Waiting.{some_of, how_many, chosen, left, hears, none, held_by, released}
+use Rattle.std.specs.List.{list_any}
+use Rattle.board_world.specs.Waiting.{how_many, chosen, left, hears, none, held_by, released}
 use Rattle.board_world.specs.Activities.{Activity, World, is_of, is_number, handlers, holding, woken}
 use Rattle.board_world.specs.Kinds.{Kind, Listens, RaisesNow}
 use Rattle.board_world.specs.World.{dispatch, acted, ends, ends_with}
@@ -187,7 +188,7 @@ module _ {A S : Type 0} where
           }
 
   -- whether a listener begins is whether the world has a new activity
-  pub begins-agrees : (make : ℕ → A) (e : Event) (b : BusState) (w : World A S) → Agrees b w → none (handlers make e w 0 w.listeners) ≡ not (some_of (begins_new e) b.listeners)
+  pub begins-agrees : (make : ℕ → A) (e : Event) (b : BusState) (w : World A S) → Agrees b w → none (handlers make e w 0 w.listeners) ≡ not (list_any (begins_new e) b.listeners)
   begins-agrees make e b w h = ap none (begun-agrees make e b w h) ∙ none-begun make e 0 b.listeners
 
   -- the world's new activities are those of the listeners' numbers

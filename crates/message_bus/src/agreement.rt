@@ -5,7 +5,8 @@ ghost use Rattle.board_world.specs.declared.events.Listener.{Listener};
 ghost use Rattle.board_world.specs.Limits.{listener_limit, raiser_limit};
 ghost use Rattle.board_world.specs.Observations.{End};
 ghost use Rattle.board_world.specs.Board.{Board, raised, arrive_all};
-ghost use Rattle.board_world.specs.Waiting.{none, some_of, how_many, handler_of};
+ghost use Rattle.std.specs.List.{list_any};
+ghost use Rattle.board_world.specs.Waiting.{none, how_many, handler_of};
 ghost use Rattle.board_world.specs.Activities.{Activity, World, handlers, holding};
 ghost use Rattle.board_world.specs.Kinds.{Kind, Question, Goes, Asks, Takes, Pauses, Waits, Spawns, Listens, RaisesNow};
 ghost use Rattle.board_world.specs.World.{dispatch, acted, ends, leaves, stops, jump};
@@ -18,15 +19,10 @@ ghost use Rattle.message_bus.specs.Agreement.{Agrees, hearings, handler_activity
 /// the events that the listeners hold behind it are the world's. So `Bus::begins` is true exactly where the world has a
 /// new activity.
 pub fn hearing_is_the_worlds<A, S>()
-    ensures begun { (make : ℕ → A) (e : Event) (b : BusState) (w : World A S) → Agrees b w
-        → handlers make e w 0 w.listeners ≡ begun make e 0 b.listeners }
-    ensures by_number { (make : ℕ → A) (e : Event) (b : BusState) (w : World A S) → Agrees b w
-        → handlers make e w 0 w.listeners
-        ≡ map (λ i. handler_activity (make (handler_of i (hearings b.listeners))) e i) (beginning e 0 b.listeners) }
-    ensures begins { (make : ℕ → A) (e : Event) (b : BusState) (w : World A S) → Agrees b w
-        → none (handlers make e w 0 w.listeners) ≡ not (some_of (begins_new e) b.listeners) }
-    ensures held { (e : Event) (b : BusState) (w : World A S) → Agrees b w
-        → holding e w 0 w.listeners ≡ hearings (map (heard e) b.listeners) }
+    ensures begun { (make : ℕ → A) (e : Event) (b : BusState) (w : World A S) → Agrees b w → handlers make e w 0 w.listeners ≡ begun make e 0 b.listeners }
+    ensures by_number { (make : ℕ → A) (e : Event) (b : BusState) (w : World A S) → Agrees b w → handlers make e w 0 w.listeners ≡ map (λ i. handler_activity (make (handler_of i (hearings b.listeners))) e i) (beginning e 0 b.listeners) }
+    ensures begins { (make : ℕ → A) (e : Event) (b : BusState) (w : World A S) → Agrees b w → none (handlers make e w 0 w.listeners) ≡ not (list_any (begins_new e) b.listeners) }
+    ensures held { (e : Event) (b : BusState) (w : World A S) → Agrees b w → holding e w 0 w.listeners ≡ hearings (map (heard e) b.listeners) }
 {}
 
 /// The set of bits that `Bus::dispatch` gives has the numbers of the listeners that begin. They ascend, and each is that

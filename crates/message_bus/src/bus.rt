@@ -2,7 +2,7 @@
 ghost use Rattle.std.specs.Prelude.{◌≡◌, ◌+◌, ◌<◌, ◌≤◌, ◌^◌, ◌↔◌, ℕ, [], ◌∷◌, ◌++◌, length, map, All, IsTrue, IsOk, OnOk, OnErr, IfOk, IsSome, None, slice_get, IsBitSet, Option, option_map};
 ghost use Rattle.std.specs.Option.{option_to_list};
 ghost use Rattle.board_world.specs.Limits.{listener_limit, queue_limit};
-ghost use Rattle.board_world.specs.Waiting.{some_of};
+ghost use Rattle.std.specs.List.{list_any};
 ghost use Rattle.message_bus.specs.ListenerState.{fresh, begins_new, heard, oldest, ended};
 ghost use Rattle.message_bus.specs.BusState.{queued, begun_bits, AtListener, changed, held_at, alive_at};
 ghost use Rattle.message_bus.specs.Answers.{answer_of};
@@ -160,7 +160,7 @@ impl Bus {
 
     /// Whether `dispatch` of this event would begin a new activity.
     pub fn begins(&self, event: Event) -> bool
-        ensures some { result ≡ some_of (begins_new event) self.now.listeners }
+        ensures some { result ≡ list_any (begins_new event) self.now.listeners }
         ensures bits { IsTrue result ↔ (0 < begun_bits event self.now.listeners) }
     {
         some_begins(self.registrations.as_slice(), event)

@@ -1,7 +1,7 @@
 // A listener on the bus.
 ghost use Rattle.std.specs.Prelude.{◌≡◌, ◌+◌, ◌<◌, ◌≤◌, ◌^◌, ◌↔◌, length, map, All, IsTrue};
 ghost use Rattle.board_world.specs.Limits.{listener_limit};
-ghost use Rattle.board_world.specs.Waiting.{some_of};
+ghost use Rattle.std.specs.List.{list_any};
 ghost use Rattle.message_bus.specs.ListenerState.{fresh, begins_new, heard, oldest, ended};
 ghost use Rattle.message_bus.specs.BusState.{begun_bits};
 
@@ -91,7 +91,7 @@ pub fn begun(registrations: &[Registration], event: Event) -> u32
 
 /// Whether one of them begins a new activity for the event.
 pub fn some_begins(registrations: &[Registration], event: Event) -> bool
-    ensures { result ≡ some_of (begins_new event) registrations.now }
+    ensures { result ≡ list_any (begins_new event) registrations.now }
 {
     match registrations {
         [] => false,

@@ -13,17 +13,19 @@ use Rattle.sts_scope.specs.declared.entries.Owner.TheVariants as o
 use Rattle.sts_scope.specs.declared.lines.Line.{Line}
 use Rattle.sts_scope.specs.declared.numbers.Numbers.{Numbers}
 use Rattle.sts_scope.specs.Symbols.{member_at, IsIndexed}
-use Rattle.sts_scope.specs.Values.{or_else}
+use Rattle.std.specs.Option.{option_and_then, option_map_or, option_or, unwrap_or}
 use Rattle.sts_scope.specs.Lookup.{base_of, entry_number, member_from, member_number}
 use Rattle.sts_scope.specs.Bases.{is_endless, above as class_above}
 use Rattle.sts_scope.specs.Rules.{reaches, maker_from, maker_takes_of}
-use Rattle.sts_scope.specs.Lines.{noted, IsPut, of, takes_of, IsLine, AreLines, at, no_line, nearest_maker}
+use Rattle.sts_scope.specs.Lines.{takes_of, IsLine, AreLines, at}
+use Rattle.sts_scope.specs.inner.Lines.{no_line, nearest_maker}
+use Rattle.sts_scope.proofs.Puts.{noted, IsPut}
 
 -- members that are put into a map
 pub put_none : (all : List (ℕ × ℕ)) (base made : PersistentMap) → ((x : ℕ) → value_in made x ≡ value_in base x) → IsPut all all base made
 put_none all base made h = record { done = []; parts = sym (append-nil all); same = h }
 
-one_put : (b : Bool) (d : ℕ) (o p : Option ℕ) → cond b (Some d) (or_else o p) ≡ or_else (cond b (Some d) o) p
+one_put : (b : Bool) (d : ℕ) (o p : Option ℕ) → cond b (Some d) (option_or o p) ≡ option_or (cond b (Some d) o) p
 one_put true d o p = refl
 one_put false d o p = refl
 
@@ -36,7 +38,7 @@ put_one all rest left base made new x d p is h = record {
   done = (x, d) ∷ p.done;
   parts = p.parts ∙ ap (λ r. r ++ p.done) is ∙ append_assoc left ((x, d) ∷ []) p.done;
   same = λ y. h y ∙ ap (λ o. cond (x == y) (Some d) o) (p.same y) ∙ one_put (x == y) d (noted p.done y) (value_in base y)
-      ∙ ap (λ b. or_else (cond b (Some d) (noted p.done y)) (value_in base y)) (turned x y);
+      ∙ ap (λ b. option_or (cond b (Some d) (noted p.done y)) (value_in base y)) (turned x y);
 }
 
 -- the line above a class
@@ -56,38 +58,35 @@ pub above_is : (entries : List Entry) (classes : List ClassHead) (lines : List (
 above_is entries classes lines base b line a is h = subst (λ o. IsLine entries classes o line) (sym is) (a b line h)
 
 -- what is asked of a class's base
-asked : {A : Type 0} (none : A) (f : ℕ → A) (o : Option ℕ) → ◌≡◌ {A = A} (elim o [ None ↦ none | Some b ↦ f b ]) (of none f o)
+asked : {A : Type 0} (none : A) (f : ℕ → A) (o : Option ℕ) → ◌≡◌ {A = A} (elim o [ None ↦ none | Some b ↦ f b ]) (option_map_or f o none)
 asked none f None = refl
 asked none f (Some b) = refl
 
-first : (o rest : Option ℕ) → ◌≡◌ {A = Option ℕ} (elim o [ Some d ↦ Some d | None ↦ rest ]) (or_else o rest)
+first : (o rest : Option ℕ) → ◌≡◌ {A = Option ℕ} (elim o [ Some d ↦ Some d | None ↦ rest ]) (option_or o rest)
 first None rest = refl
 first (Some d) rest = refl
 
-own_member : (n : ℕ) (entries : List Entry) (classes : List ClassHead) (c x : ℕ) → member_from entries classes (suc n) c x ≡ or_else (entry_number entries (o.Class c) x) (of None (λ b. member_from entries classes n b x) (base_of classes c))
+own_member : (n : ℕ) (entries : List Entry) (classes : List ClassHead) (c x : ℕ) →
+    member_from entries classes (suc n) c x ≡ option_or (entry_number entries (o.Class c) x) (option_and_then (λ b. member_from entries classes n b x) (base_of classes c))
 own_member n entries classes c x =
-    first (entry_number entries (o.Class c) x) (elim (base_of classes c) [ None ↦ None | Some b ↦ member_from entries classes n b x ])
-    ∙ ap (or_else (entry_number entries (o.Class c) x)) (asked None (λ b. member_from entries classes n b x) (base_of classes c))
+    first (entry_number entries (o.Class c) x) (option_and_then (λ b. member_from entries classes n b x) (base_of classes c))
 
-own_reach : (n : ℕ) (classes : List ClassHead) (c m : ℕ) → reaches classes (suc n) c m ≡ (c == m || of false (λ b. reaches classes n b m) (base_of classes c))
+own_reach : (n : ℕ) (classes : List ClassHead) (c m : ℕ) → reaches classes (suc n) c m ≡ (c == m || option_map_or (λ b. reaches classes n b m) (base_of classes c) false)
 unfolding reaches
 own_reach n classes c m = ap (λ r. c == m || r) (asked false (λ b. reaches classes n b m) (base_of classes c))
 
-taken : (classes : List ClassHead) (n : ℕ) (o : Option ℕ) → ◌≡◌ {A = List StaticType} (elim o [ None ↦ [] | Some b ↦ maker_from classes n b ]) (of [] (maker_from classes n) o)
-taken classes n o = asked [] (maker_from classes n) o
-
 -- what is taken by the nearest written constructor of a class, if it is its own one or not
 own_maker : (n : ℕ) (classes : List ClassHead) (c : ℕ) (class : ClassHead) (takes : Option (List StaticType)) (up : Option ℕ) → slice_get classes c ≡ Some class → class.takes ≡ takes →
-    of [] (maker_from classes n) (base_of classes c) ≡ takes_of classes up → maker_from classes (suc n) c ≡ takes_of classes (elim takes [ None ↦ up | Some t ↦ Some c ])
+    option_map_or (maker_from classes n) (base_of classes c) [] ≡ takes_of classes up → maker_from classes (suc n) c ≡ takes_of classes (elim takes [ None ↦ up | Some t ↦ Some c ])
 own_maker n classes c class None up is h rest =
-    let based : base_of classes c ≡ class.base = ap (λ o. elim o [ None ↦ None | Some k ↦ k.base ]) is in
+    let based : base_of classes c ≡ class.base = ap (λ o. option_and_then (λ (k : ClassHead). k.base) o) is in
     ap (λ o. elim o [ None ↦ [] | Some k ↦ elim k.takes [ Some t ↦ t | None ↦ elim k.base [ None ↦ [] | Some b ↦ maker_from classes n b ] ] ]) is
     ∙ ap (λ t. elim t [ Some t ↦ t | None ↦ elim class.base [ None ↦ [] | Some b ↦ maker_from classes n b ] ]) h
-    ∙ asked [] (maker_from classes n) class.base ∙ sym (ap (of [] (maker_from classes n)) based) ∙ rest
+    ∙ asked [] (maker_from classes n) class.base ∙ sym (ap (λ o. option_map_or (maker_from classes n) o []) based) ∙ rest
 own_maker n classes c class (Some t) up is h rest =
     ap (λ o. elim o [ None ↦ [] | Some k ↦ elim k.takes [ Some t ↦ t | None ↦ elim k.base [ None ↦ [] | Some b ↦ maker_from classes n b ] ] ]) is
     ∙ ap (λ t. elim t [ Some t ↦ t | None ↦ elim class.base [ None ↦ [] | Some b ↦ maker_from classes n b ] ]) h
-    ∙ sym (ap (λ o. elim o [ None ↦ [] | Some k ↦ elim k.takes [ None ↦ [] | Some t ↦ t ] ]) is ∙ ap (λ t. elim t [ None ↦ [] | Some t ↦ t ]) h)
+    ∙ sym (ap (λ o. option_map_or (λ (k : ClassHead). unwrap_or k.takes []) o []) is ∙ ap (λ t. unwrap_or t []) h)
 
 seen_here : (b : Bool) (o : Option ℕ) → is_some (cond b (Some 0) o) ≡ (b || is_some o)
 seen_here true o = refl
@@ -103,13 +102,13 @@ fewer len n h = omega arith
 pub line_longer : (entries : List Entry) (classes : List ClassHead) (c : ℕ) (class : ClassHead) (up line : Line) →
     slice_get classes c ≡ Some class → IsLine entries classes (base_of classes c) up → line.len ≡ up.len + 1 →
     ((y : ℕ) → value_in line.classes y ≡ cond (c == y) (Some 0) (value_in up.classes y)) →
-    ((x : ℕ) → value_in line.members x ≡ or_else (entry_number entries (o.Class c) x) (value_in up.members x)) →
+    ((x : ℕ) → value_in line.members x ≡ option_or (entry_number entries (o.Class c) x) (value_in up.members x)) →
     line.maker ≡ nearest_maker class c up.maker → IsLine entries classes (Some c) line
 line_longer entries classes c class up line is l len made put maker =
     record {
       ends = λ n h.
           let m : up.len + 1 ≤ n = omega (arith, len, h) in
-          ap (λ k. class_above classes k c) (further up.len n m) ∙ asked None (class_above classes (n - 1)) (base_of classes c) ∙ l.ends (n - 1) (fewer up.len n m);
+          ap (λ k. class_above classes k c) (further up.len n m) ∙ l.ends (n - 1) (fewer up.len n m);
       reached = λ n y h.
           let m : up.len + 1 ≤ n = omega (arith, len, h) in
           ap (λ k. reaches classes k c y) (further up.len n m) ∙ own_reach (n - 1) classes c y ∙ ap (λ t. c == y || t) (l.reached (n - 1) y (fewer up.len n m))
@@ -117,7 +116,7 @@ line_longer entries classes c class up line is l len made put maker =
       member = λ n x h.
           let m : up.len + 1 ≤ n = omega (arith, len, h) in
           ap (λ k. member_from entries classes k c x) (further up.len n m) ∙ own_member (n - 1) entries classes c x
-          ∙ ap (or_else (entry_number entries (o.Class c) x)) (l.member (n - 1) x (fewer up.len n m)) ∙ sym (put x);
+          ∙ ap (option_or (entry_number entries (o.Class c) x)) (l.member (n - 1) x (fewer up.len n m)) ∙ sym (put x);
       maker = λ n h.
           let m : up.len + 1 ≤ n = omega (arith, len, h) in
           ap (λ k. maker_from classes k c) (further up.len n m) ∙ own_maker (n - 1) classes c class class.takes up.maker is refl (l.maker (n - 1) (fewer up.len n m)) ∙ ap (takes_of classes) (sym maker);
@@ -182,5 +181,5 @@ pub maker_is : (entries : List Entry) (classes : List ClassHead) (lines : List (
 maker_is entries classes lines c line a is h = sym ((a c line is).maker (length classes) h)
 
 pub own_put : (numbers : Numbers) (entries : List Entry) (c : ℕ) (base made : PersistentMap) → IsIndexed numbers entries →
-    ((x : ℕ) → value_in made x ≡ or_else (member_at numbers.classes.items c x) (value_in base x)) → (x : ℕ) → value_in made x ≡ or_else (entry_number entries (o.Class c) x) (value_in base x)
-own_put numbers entries c base made i h x = h x ∙ ap (λ n. or_else n (value_in base x)) (i (o.Class c) x)
+    ((x : ℕ) → value_in made x ≡ option_or (member_at numbers.classes.items c x) (value_in base x)) → (x : ℕ) → value_in made x ≡ option_or (entry_number entries (o.Class c) x) (value_in base x)
+own_put numbers entries c base made i h x = h x ∙ ap (λ n. option_or n (value_in base x)) (i (o.Class c) x)

@@ -9,7 +9,7 @@ use Rattle.std.specs.Ordering.{nat_cmp, is_eq}
 use Rattle.std.proofs.lemmas.Bool.Decides.{nat_tests}
 use Rattle.sts_scope.specs.declared.entries.Owner.{Owner}
 use Rattle.sts_scope.specs.declared.entries.Entry.{Entry}
-use Rattle.sts_scope.specs.Values.{or_else}
+use Rattle.std.specs.Option.{option_or}
 use Rattle.sts_scope.specs.Lookup.{same_owner, declares, entry_number, is_second}
 use Rattle.sts_scope.specs.declared.numbers.Numbers.{Numbers}
 use Rattle.sts_scope.specs.Symbols.{number_at, member_at, Notes, IsIndexed}
@@ -17,26 +17,26 @@ use Rattle.sts_scope.proofs.Lists.{position-append, or_else-none}
 
 -- the first one of a name, when a declaration is added
 number_added : (es : List Entry) (e : Entry) (owner : Owner) (x : ℕ) →
-    entry_number (es ++ e ∷ []) owner x ≡ or_else (entry_number es owner x) (cond (declares owner x e) (Some (length es)) None)
+    entry_number (es ++ e ∷ []) owner x ≡ option_or (entry_number es owner x) (cond (declares owner x e) (Some (length es)) None)
 number_added es e owner x =
     let n : 0 + length es ≡ length es = omega arith in
-    position-append (declares owner x) 0 es (e ∷ []) ∙ ap (λ m. or_else (entry_number es owner x) (cond (declares owner x e) (Some m) None)) n
+    position-append (declares owner x) 0 es (e ∷ []) ∙ ap (λ m. option_or (entry_number es owner x) (cond (declares owner x e) (Some m) None)) n
 
 -- when a declaration is added and its number noted
 pub indexed_noted : (old new : Numbers) (es : List Entry) (e : Entry) → IsIndexed old es →
-    ((owner : Owner) (x : ℕ) → number_at new owner x ≡ or_else (number_at old owner x) (cond (same_owner e.owner owner && (e.name == x)) (Some (length es)) None)) →
+    ((owner : Owner) (x : ℕ) → number_at new owner x ≡ option_or (number_at old owner x) (cond (same_owner e.owner owner && (e.name == x)) (Some (length es)) None)) →
     IsIndexed new (es ++ e ∷ [])
 indexed_noted old new es e i n = λ owner x.
-    n owner x ∙ ap (λ first. or_else first (cond (declares owner x e) (Some (length es)) None)) (i owner x) ∙ sym (number_added es e owner x)
+    n owner x ∙ ap (λ first. option_or first (cond (declares owner x e) (Some (length es)) None)) (i owner x) ∙ sym (number_added es e owner x)
 
-none_more : (o : Option ℕ) (b : Bool) (d : ℕ) → b ≡ false → o ≡ or_else o (cond b (Some d) None)
-none_more o b d h = sym (or_else-none o) ∙ ap (λ c. or_else o (cond c (Some d) None)) (sym h)
+none_more : (o : Option ℕ) (b : Bool) (d : ℕ) → b ≡ false → o ≡ option_or o (cond b (Some d) None)
+none_more o b d h = sym (or_else-none o) ∙ ap (λ c. option_or o (cond c (Some d) None)) (sym h)
 
 -- a number was noted for a name of one class's members
 pub member_noted : (ms : List (BTreeMap ℕ ℕ)) (at x d b y : ℕ) (m n : BTreeMap ℕ ℕ) → slice_get ms at ≡ Some m → Notes m n x d →
-    member_at (set ms at n) b y ≡ or_else (member_at ms b y) (cond (at == b && (x == y)) (Some d) None)
+    member_at (set ms at n) b y ≡ option_or (member_at ms b y) (cond (at == b && (x == y)) (Some d) None)
 member_noted [] at x d b y m n is h = absurd (cc)
-member_noted (k ∷ ks) zero x d zero y m n is h = h y ∙ ap (λ q. or_else (get nat_cmp q y) (cond (x == y) (Some d) None)) (sym (same_Some k m is))
+member_noted (k ∷ ks) zero x d zero y m n is h = h y ∙ ap (λ q. option_or (get nat_cmp q y) (cond (x == y) (Some d) None)) (sym (same_Some k m is))
 member_noted (k ∷ ks) zero x d (suc b) y m n is h =
     let e : (0 == suc b && (x == y)) ≡ false = grind (arith, nat_tests) in
     none_more (member_at ks b y) (0 == suc b && (x == y)) d e
@@ -45,7 +45,7 @@ member_noted (k ∷ ks) (suc at) x d zero y m n is h =
     none_more (get nat_cmp k y) (suc at == 0 && (x == y)) d e
 member_noted (k ∷ ks) (suc at) x d (suc b) y m n is h =
     let e : (at == b) ≡ (suc at == suc b) = grind (arith, nat_tests) in
-    member_noted ks at x d b y m n is h ∙ ap (λ c. or_else (member_at ks b y) (cond (c && (x == y)) (Some d) None)) e
+    member_noted ks at x d b y m n is h ∙ ap (λ c. option_or (member_at ks b y) (cond (c && (x == y)) (Some d) None)) e
 
 -- one more class without numbers
 pub member_room : (ms : List (BTreeMap ℕ ℕ)) (m : BTreeMap ℕ ℕ) (b y : ℕ) → m.entries ≡ [] → member_at (ms ++ m ∷ []) b y ≡ member_at ms b y

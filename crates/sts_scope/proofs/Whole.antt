@@ -6,7 +6,8 @@ use Rattle.sts_syntax.specs.declared.units.Item.{Item}
 use Rattle.sts_syntax.specs.Programs.{TopLevel, Class, Function, Main, Program, top_level, top_levels}
 use Rattle.sts_scope.specs.declared.entries.ClassHead.{ClassHead}
 use Rattle.sts_scope.specs.declared.known.Known.{Known}
-use Rattle.sts_scope.specs.Values.{value_at, or_else}
+use Rattle.std.specs.Option.{option_or}
+use Rattle.sts_scope.specs.Values.{value_at}
 use Rattle.sts_scope.specs.Adding.{Adds}
 use Rattle.sts_scope.specs.Entries.{Naming, class_names, item_class, item_entries, item_heads, item_kinds, entries_from, heads_of, written_kinds}
 use Rattle.sts_scope.specs.Scopes.{all_names, all_entries, all_classes, all_kinds, library_entries, library_classes}
@@ -103,13 +104,13 @@ all_fit f library text old mid new limit few none first second =
 
 -- numbers that are given twice, for the library and behind it for the text
 pub all_named : (library text : Program) (first second : List (Option ℕ)) (count : ℕ) →
-    ((y : ℕ) → value_at first y ≡ or_else (value_at [] y) (position_from (λ z. z == y) 0 (class_names library))) →
+    ((y : ℕ) → value_at first y ≡ option_or (value_at [] y) (position_from (λ z. z == y) 0 (class_names library))) →
     count ≡ 0 + length (class_names library) →
-    ((y : ℕ) → value_at second y ≡ or_else (value_at first y) (position_from (λ z. z == y) count (class_names text))) →
+    ((y : ℕ) → value_at second y ≡ option_or (value_at first y) (position_from (λ z. z == y) count (class_names text))) →
     (y : ℕ) → value_at second y ≡ all_names library text y
 all_named library text first second count h n g y =
     let at = λ (m : ℕ) (zs : List ℕ). position_from (λ z. z == y) m zs in
-    g y ∙ ap (λ o. or_else o (at count (class_names text))) (h y) ∙ ap (λ m. or_else (at 0 (class_names library)) (at m (class_names text))) n
+    g y ∙ ap (λ o. option_or o (at count (class_names text))) (h y) ∙ ap (λ m. option_or (at 0 (class_names library)) (at m (class_names text))) n
     ∙ sym (position-append (λ z. z == y) 0 (class_names library) (class_names text)) ∙ ap (at 0) (sym (names-append library text))
 
 -- all that is known after the library and then the text were added

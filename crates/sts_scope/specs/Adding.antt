@@ -6,7 +6,8 @@ use Rattle.sts_scope.specs.declared.entries.ClassHead.{ClassHead}
 use Rattle.sts_scope.specs.declared.known.Known.{Known}
 
 -- these declarations, with these types, and these classes were added
-pub record Adds (old new : Known) (entries : List Entry) (kinds : List (Option StaticType)) (classes : List ClassHead) : Type 0 where
+pub record Adds (old new : Known) (entries : List Entry) (kinds : List (Option StaticType))
+    (classes : List ClassHead) : Type 0 where
   pub entries_added : new.entries ≡ old.entries ++ entries
   pub kinds_added : new.kinds ≡ old.kinds ++ kinds
   pub classes_added : new.classes ≡ old.classes ++ classes

@@ -1,5 +1,6 @@
 -- The bases of classes: each is known, and no chain of them comes back.
 use Rattle.std.specs.Prelude.{ℕ, zero, suc, ◌+◌, Bool, not, Option, Some, None, List, [], ◌∷◌, length, is_some}
+use Rattle.std.specs.Option.{option_and_then}
 use Rattle.sts_base.specs.declared.refused.Code.TheVariants.{UnknownName, ClassCycle}
 use Rattle.sts_scope.specs.declared.entries.ClassHead.{ClassHead}
 use Rattle.sts_scope.specs.Failures.{Failure, ◌then◌, unless, own}
@@ -16,9 +17,10 @@ bases_failure (class ∷ rest) = base_failure class then bases_failure rest
 -- the class that is n bases above, if there are so many
 abbrev pub above : List ClassHead → ℕ → ℕ → Option ℕ
 above classes zero c = Some c
-above classes (suc n) c = elim (base_of classes c) [ None ↦ None | Some b ↦ above classes n b ]
+above classes (suc n) c = option_and_then (above classes n) (base_of classes c)
 
--- The chain of a class goes on for as many bases as there are classes: exactly then it comes back (`endless_chains_come_back` in crates/typed_laws).
+-- The chain of a class goes on for as many bases as there are classes: exactly then it comes back
+-- (`endless_chains_come_back` in crates/typed_laws).
 abbrev pub is_endless : List ClassHead → ℕ → Bool
 is_endless classes c = is_some (above classes (length classes) c)
 

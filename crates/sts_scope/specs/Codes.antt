@@ -14,12 +14,11 @@ use Rattle.sts_scope.specs.Lookup.{inherits_field}
 
 -- a name that is read
 abbrev pub why_name : Found → Code
-why_name found.Unknown = UnknownName
-why_name (found.Class c) = UnknownName
 why_name found.Captured = Captures
 why_name (found.Local i) = NeedsType
 why_name (found.Global d) = NeedsType
 why_name (found.Function d) = BadHandler
+why_name _ = UnknownName
 
 abbrev pub why_this : This → Code
 why_this this.Nowhere = UnknownName
@@ -30,10 +29,8 @@ why_this (this.Object c) = Mismatch
 abbrev pub why_part : Part → Code
 why_part part.Missing = UnknownName
 why_part (part.Field d) = NeedsType
-why_part (part.Method d) = BadHandler
-why_part (part.Push t) = BadHandler
-why_part (part.Pop t) = BadHandler
 why_part part.Length = Mismatch
+why_part _ = BadHandler
 
 -- a call of what gives this
 abbrev pub why_call : Option StaticType → Code
@@ -43,11 +40,8 @@ why_call (Some t) = Mismatch
 -- the class name of `new`
 abbrev pub why_make : Found → Code
 why_make found.Captured = Captures
-why_make found.Unknown = UnknownName
 why_make (found.Class c) = Mismatch
-why_make (found.Local i) = UnknownName
-why_make (found.Global d) = UnknownName
-why_make (found.Function d) = UnknownName
+why_make _ = UnknownName
 
 -- `super.m(..)` where m is no method of a base: a field of that name is known
 abbrev pub why_super : Known → This → ℕ → Code

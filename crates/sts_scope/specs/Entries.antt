@@ -1,4 +1,5 @@
--- What a program declares by name, in text order: globals, functions and classes, and the fields and methods of classes.
+-- What a program declares by name, in text order: globals, functions and classes, and the fields and methods of
+-- classes.
 use Rattle.std.specs.Prelude.{ℕ, ◌+◌, Bool, Option, Some, None, List, [], ◌∷◌, ◌++◌, ◌==◌, length, unwrap_or}
 use Rattle.std.specs.Option.{option_map, option_and_then}
 use Rattle.std.specs.List.{position_from}
@@ -18,8 +19,7 @@ use Rattle.sts_scope.specs.Kinds.{number, boolean, text, nothing, object, array_
 -- the names of the classes, in text order
 abbrev pub item_class : TopLevel → List ℕ
 item_class (Class at name base base_at members) = name ∷ []
-item_class (Function name r) = []
-item_class (Main a) = []
+item_class _ = []
 
 abbrev pub class_names : Program → List ℕ
 class_names [] = []
@@ -43,8 +43,7 @@ kind_of names (s.Named at x) = option_map object (names x)
 kind_of names (s.ListOf a) = option_and_then array_of (kind_of names a)
 
 abbrev pub written_kind : Naming → Option Annotation → Option StaticType
-written_kind names None = None
-written_kind names (Some a) = kind_of names a
+written_kind names shape = option_and_then (kind_of names) shape
 
 -- what a function takes; a parameter without a known type, which is refused elsewhere, counts as nothing
 abbrev pub parameter_kinds : Naming → List Parameter → List StaticType
@@ -55,7 +54,8 @@ abbrev pub new_entry : ℕ → Owner → ℕ → DeclarationKind → List Static
 new_entry at owner name sort takes = record { at = at; owner = owner; name = name; sort = sort; takes = takes }
 
 abbrev pub routine_entry : Naming → Owner → ℕ → DeclarationKind → Routine → Entry
-routine_entry names owner x sort (Does at params gives all arrow) = new_entry at owner x sort (parameter_kinds names params)
+routine_entry names owner x sort (Does at params gives all arrow) =
+    new_entry at owner x sort (parameter_kinds names params)
 
 abbrev pub declared_entry : Owner → DeclarationKind → Declaration → Entry
 declared_entry owner sort (Declare at x shape first) = new_entry at owner x sort []
@@ -81,7 +81,8 @@ member_entries names c (m ∷ rest) = member_entry names c m ++ member_entries n
 
 -- the declarations of a part of a text, before which stand c classes
 abbrev pub item_entries : Naming → ℕ → TopLevel → List Entry
-item_entries names c (Class at x base base_at members) = new_entry at o.Whole x (sort.Class c) [] ∷ member_entries names c members
+item_entries names c (Class at x base base_at members) =
+    new_entry at o.Whole x (sort.Class c) [] ∷ member_entries names c members
 item_entries names c (Function x r) = routine_entry names o.Whole x sort.Function r ∷ []
 item_entries names c (Main a) = main_entries a
 
@@ -127,25 +128,29 @@ written_kinds names (i ∷ rest) = item_kinds names i ++ written_kinds names res
 
 -- The heads of the classes. What a class's written constructor takes is that of its first one.
 abbrev pub base_number : Naming → Option ℕ → Option ℕ
-base_number names None = None
-base_number names (Some x) = names x
+base_number names base = option_and_then names base
 
 abbrev pub routine_takes : Naming → Routine → List StaticType
 routine_takes names (Does at params gives all arrow) = parameter_kinds names params
 
 abbrev pub maker_takes : Naming → List ClassMember → Option (List StaticType)
 maker_takes names [] = None
-maker_takes names (Field a ∷ rest) = maker_takes names rest
-maker_takes names (Method x r ∷ rest) = maker_takes names rest
 maker_takes names (Constructor r ∷ rest) = Some (routine_takes names r)
+maker_takes names (m ∷ rest) = maker_takes names rest
 
 abbrev pub class_head : Naming → ℕ → Option ℕ → ℕ → List ClassMember → ClassHead
-class_head names at base base_at members = record { at = at; base_name = base; base_at = base_at; base = base_number names base; takes = maker_takes names members }
+class_head names at base base_at members =
+    record {
+      at = at;
+      base_name = base;
+      base_at = base_at;
+      base = base_number names base;
+      takes = maker_takes names members;
+    }
 
 abbrev pub item_heads : Naming → TopLevel → List ClassHead
 item_heads names (Class at x base base_at members) = class_head names at base base_at members ∷ []
-item_heads names (Function x r) = []
-item_heads names (Main a) = []
+item_heads names _ = []
 
 abbrev pub heads_of : Naming → Program → List ClassHead
 heads_of names [] = []

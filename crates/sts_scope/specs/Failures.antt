@@ -29,7 +29,7 @@ own None code at = failure_at code at
 
 -- it is refused with this failure, unless memory ran out
 abbrev pub RefusedWith : Refused → Option Failure → Type 0
-RefusedWith (Program code at) found = found ≡ Some (record { code = code; at = at })
+RefusedWith (Program code at) found = found ≡ failure_at code at
 RefusedWith NoMemory found = Unit {0}
 
 -- there is no failure, or it is refused with the first

@@ -1,16 +1,11 @@
--- How many functions stand in a tree: its function expressions, those in them included. In text order their numbers follow one another.
+-- How many functions stand in a tree: its function expressions, those in them included. In text order their numbers
+-- follow one another.
 use Rattle.std.specs.Prelude.{ℕ, suc, ◌+◌, List, [], ◌∷◌}
-use Rattle.sts_syntax.specs.Trees.{Tree, Num, Text, Truth, Null, This, Name, Unary, Binary, Both, Either, Choice, Set, Bump, Member, Item, Call, SuperCall, Make, Items, Handler, Trees, none, more, OptionalTree, absent, present, Statement, Block, Let, IfOnly, IfElse, While, DoWhile, For, ForOf, Return, Break, Continue, Plain, Empty, Statements, done, also, OptionalStatement, omitted, written, Declaration, Declare, Declarations, ended, next, Routine, Does}
+use Rattle.sts_syntax.specs.Trees.{Tree, Unary, Binary, Both, Either, Choice, Set, Bump, Member, Item, Call, SuperCall, Make, Items, Handler, Trees, none, more, OptionalTree, absent, present, Statement, Block, Let, IfOnly, IfElse, While, DoWhile, For, ForOf, Return, Plain, Statements, done, also, OptionalStatement, omitted, written, Declaration, Declare, Declarations, ended, next, Routine, Does}
 use Rattle.sts_syntax.specs.Programs.{ClassMember, Field, Method, Constructor, TopLevel, Class, Function, Main, Program}
 
 abbrev mutual
   pub handlers : Tree → ℕ
-  handlers (Num at n) = 0
-  handlers (Text at n) = 0
-  handlers (Truth at b) = 0
-  handlers (Null at) = 0
-  handlers (This at) = 0
-  handlers (Name at x) = 0
   handlers (Unary at op a) = handlers a
   handlers (Binary at op a b) = handlers a + handlers b
   handlers (Both at a b) = handlers a + handlers b
@@ -25,6 +20,7 @@ abbrev mutual
   handlers (Make at x args) = handlers_of args
   handlers (Items at items) = handlers_of items
   handlers (Handler at body) = suc (routine_handlers body)
+  handlers _ = 0
 
   pub handlers_of : Trees → ℕ
   handlers_of none = 0
@@ -51,13 +47,12 @@ abbrev mutual
   statement_handlers (IfElse at test a b) = handlers test + statement_handlers a + statement_handlers b
   statement_handlers (While at test a) = handlers test + statement_handlers a
   statement_handlers (DoWhile at a test) = statement_handlers a + handlers test
-  statement_handlers (For at first test step a) = first_handlers first + optional_handlers test + optional_handlers step + statement_handlers a
+  statement_handlers (For at first test step a) =
+      first_handlers first + optional_handlers test + optional_handlers step + statement_handlers a
   statement_handlers (ForOf at fixed x list a) = handlers list + statement_handlers a
   statement_handlers (Return at value) = optional_handlers value
-  statement_handlers (Break at) = 0
-  statement_handlers (Continue at) = 0
   statement_handlers (Plain at e) = handlers e
-  statement_handlers (Empty at) = 0
+  statement_handlers _ = 0
 
   pub first_handlers : OptionalStatement → ℕ
   first_handlers omitted = 0
@@ -80,9 +75,8 @@ members_routines (m ∷ rest) = member_routines m + members_routines rest
 -- a class whose constructor isn't written has one more, at its own place
 abbrev pub unwritten : List ClassMember → ℕ
 unwritten [] = 1
-unwritten (Field a ∷ rest) = unwritten rest
-unwritten (Method x r ∷ rest) = unwritten rest
 unwritten (Constructor r ∷ rest) = 0
+unwritten (m ∷ rest) = unwritten rest
 
 abbrev pub item_routines : TopLevel → ℕ
 item_routines (Class at x base base_at members) = unwritten members + members_routines members

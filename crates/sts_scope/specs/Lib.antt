@@ -17,3 +17,4 @@ pub mod Known
 pub mod Rows
 pub mod Handlers
 pub mod Numbers
+pub mod inner

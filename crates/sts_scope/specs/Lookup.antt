@@ -1,5 +1,6 @@
 -- Which declaration a name stands for: of the whole text, and of a class with its bases.
 use Rattle.std.specs.Prelude.{ℕ, zero, suc, Bool, true, false, ◌&&◌, ◌==◌, Option, Some, None, List, length, slice_get, take, is_some}
+use Rattle.std.specs.Option.{option_and_then, option_map}
 use Rattle.std.specs.List.{position_from}
 use Rattle.sts_scope.specs.declared.entries.Owner.{Owner}
 use Rattle.sts_scope.specs.declared.entries.Owner.TheVariants as o
@@ -10,9 +11,8 @@ use Rattle.sts_scope.specs.declared.entries.ClassHead.{ClassHead}
 
 abbrev pub same_owner : Owner → Owner → Bool
 same_owner o.Whole o.Whole = true
-same_owner o.Whole (o.Class d) = false
-same_owner (o.Class c) o.Whole = false
 same_owner (o.Class c) (o.Class d) = c == d
+same_owner _ _ = false
 
 -- a declaration of this name of the text or of this class
 abbrev pub declares : Owner → ℕ → Entry → Bool
@@ -28,15 +28,16 @@ is_second entries d owner x = is_some (entry_number (take d entries) owner x)
 
 -- the base of a class
 abbrev pub base_of : List ClassHead → ℕ → Option ℕ
-base_of classes c = elim (slice_get classes c) [ None ↦ None | Some class ↦ class.base ]
+base_of classes c = option_and_then (λ class. class.base) (slice_get classes c)
 
--- A member of a class: its own one of this name, else that of the nearest base that has one (`members_are_of_the_nearest` in crates/typed_laws, without a count).
+-- A member of a class: its own one of this name, else that of the nearest base that has one
+-- (`members_are_of_the_nearest` in crates/typed_laws, without a count).
 abbrev pub member_from : List Entry → List ClassHead → ℕ → ℕ → ℕ → Option ℕ
 member_from entries classes zero c x = None
 member_from entries classes (suc n) c x =
     elim (entry_number entries (o.Class c) x) [
       | Some d ↦ Some d
-      | None ↦ elim (base_of classes c) [ None ↦ None | Some b ↦ member_from entries classes n b x ]
+      | None ↦ option_and_then (λ b. member_from entries classes n b x) (base_of classes c)
     ]
 
 abbrev pub member_number : List Entry → List ClassHead → ℕ → ℕ → Option ℕ
@@ -44,10 +45,10 @@ member_number entries classes c x = member_from entries classes (length classes)
 
 -- that of the nearest base
 abbrev pub inherited : List Entry → List ClassHead → ℕ → ℕ → Option ℕ
-inherited entries classes c x = elim (base_of classes c) [ None ↦ None | Some b ↦ member_number entries classes b x ]
+inherited entries classes c x = option_and_then (λ b. member_number entries classes b x) (base_of classes c)
 
 abbrev pub sort_of : List Entry → ℕ → Option DeclarationKind
-sort_of entries d = elim (slice_get entries d) [ None ↦ None | Some e ↦ Some e.sort ]
+sort_of entries d = option_map (λ e. e.sort) (slice_get entries d)
 
 abbrev pub is_field : Option DeclarationKind → Bool
 is_field (Some sort.Field) = true
@@ -55,4 +56,5 @@ is_field _ = false
 
 -- a base has a field of this name
 abbrev pub inherits_field : List Entry → List ClassHead → ℕ → ℕ → Bool
-inherits_field entries classes c x = elim (inherited entries classes c x) [ None ↦ false | Some d ↦ is_field (sort_of entries d) ]
+inherits_field entries classes c x =
+    elim (inherited entries classes c x) [ None ↦ false | Some d ↦ is_field (sort_of entries d) ]

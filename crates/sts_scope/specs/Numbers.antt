@@ -38,7 +38,11 @@ added names more = names ++ filter (λ x. not (is_listed names x)) more
 -- the names of a class's fields or slots: its base's first, then its own new ones
 abbrev pub names_from : (Option DeclarationKind → Bool) → Known → ℕ → ℕ → List ℕ
 names_from which k zero c = []
-names_from which k (suc n) c = elim (base_of k.classes c) [ None ↦ own_names which k.entries c | Some b ↦ added (names_from which k n b) (own_names which k.entries c) ]
+names_from which k (suc n) c =
+    elim (base_of k.classes c) [
+      | None ↦ own_names which k.entries c
+      | Some b ↦ added (names_from which k n b) (own_names which k.entries c)
+    ]
 
 abbrev pub field_names : Known → ℕ → List ℕ
 field_names k c = names_from is_field k (length k.classes) c
@@ -94,8 +98,7 @@ maker_from first n (Method x r ∷ rest) = maker_from first (suc n + routine_han
 
 abbrev pub item_makers : ℕ → TopLevel → List ℕ
 item_makers n (Class at x base base_at members) = maker_from n n members ∷ []
-item_makers n (Function x r) = []
-item_makers n (Main a) = []
+item_makers n _ = []
 
 abbrev pub makers_from : ℕ → Program → List ℕ
 makers_from n [] = []

@@ -13,8 +13,9 @@ use Rattle.sts_scope.specs.declared.known.Found.TheVariants as found
 use Rattle.sts_scope.specs.Globals.{is_dollar}
 use Rattle.sts_scope.specs.Lookup.{entry_number, sort_of}
 
--- Where something stands: the parameters and locals of the functions around, of which nothing but their names is known; those of this function that
--- are in scope, outermost first, of which those from `block` on are of this block; what `this` is; what a `return` gives; and whether it is the library.
+-- Where something stands: the parameters and locals of the functions around, of which nothing but their names is known;
+-- those of this function that are in scope, outermost first, of which those from `block` on are of this block; what
+-- `this` is; what a `return` gives; and whether it is the library.
 pub record NameScope : Type 0 where
   pub around : List Local
   pub locals : List Local
@@ -35,8 +36,7 @@ abbrev pub entry_found : ℕ → DeclarationKind → Found
 entry_found d (sort.Global fixed) = found.Global d
 entry_found d sort.Function = found.Function d
 entry_found d (sort.Class c) = found.Class c
-entry_found d sort.Field = found.Unknown
-entry_found d sort.Method = found.Unknown
+entry_found d _ = found.Unknown
 
 abbrev pub sort_found : ℕ → Option DeclarationKind → Found
 sort_found d None = found.Unknown
@@ -45,7 +45,8 @@ sort_found d (Some s) = entry_found d s
 -- The declaration of the whole text of this name. In the library none of the text is known.
 abbrev pub whole_found : Known → Bool → Option ℕ → Found
 whole_found k library None = found.Unknown
-whole_found k library (Some d) = if library && nat_le k.library d then found.Unknown else sort_found d (sort_of k.entries d)
+whole_found k library (Some d) =
+    if library && nat_le k.library d then found.Unknown else sort_found d (sort_of k.entries d)
 
 abbrev pub global_named : Known → Bool → ℕ → Found
 global_named k library x = whole_found k library (entry_number k.entries o.Whole x)
@@ -55,7 +56,8 @@ abbrev pub found_around : Known → NameScope → ℕ → Bool → Found
 found_around k p x true = found.Captured
 found_around k p x false = global_named k p.library x
 
--- The innermost local of this function, else what is around it. A name that begins with `$` stands for something in the library alone.
+-- The innermost local of this function, else what is around it. A name that begins with `$` stands for something in the
+-- library alone.
 abbrev pub found_among : Known → NameScope → ℕ → Option ℕ → Found
 found_among k p x (Some i) = found.Local i
 found_among k p x None = found_around k p x (is_some (last_named p.around x))
@@ -64,7 +66,8 @@ abbrev pub is_hidden : List (List ℕ) → NameScope → ℕ → Bool
 is_hidden spellings p x = not p.library && is_dollar spellings x
 
 abbrev pub name_found : List (List ℕ) → Known → NameScope → ℕ → Found
-name_found spellings k p x = if is_hidden spellings p x then found.Unknown else found_among k p x (last_named p.locals x)
+name_found spellings k p x =
+    if is_hidden spellings p x then found.Unknown else found_among k p x (last_named p.locals x)
 
 -- a second local of this name in the block
 abbrev pub is_from : ℕ → Option ℕ → Bool
@@ -88,13 +91,22 @@ inner p = record p { block = length p.locals }
 -- `this` in a handler
 abbrev pub hidden : This → This
 hidden (this.Object c) = this.Hidden c
-hidden (this.Hidden c) = this.Hidden c
-hidden this.Nowhere = this.Nowhere
+hidden this = this
 
 -- in a handler that begins here, whose result is this
 abbrev pub in_handler : NameScope → Option StaticType → NameScope
-in_handler p gives = record { around = p.around ++ p.locals; locals = []; block = 0; this = hidden p.this; gives = gives; library = p.library }
+in_handler p gives =
+    record {
+      around = p.around
+          ++ p.locals;
+      locals = [];
+      block = 0;
+      this = hidden p.this;
+      gives = gives;
+      library = p.library;
+    }
 
 -- outside all functions, where a class's objects may be meant by `this`
 abbrev pub outside : This → Bool → Option StaticType → NameScope
-outside this library gives = record { around = []; locals = []; block = 0; this = this; gives = gives; library = library }
+outside this library gives =
+    record { around = []; locals = []; block = 0; this = this; gives = gives; library = library }

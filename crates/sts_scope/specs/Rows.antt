@@ -3,7 +3,7 @@ use Rattle.std.specs.Prelude.{ℕ, pos, false, Option, Some, None, List, [], ◌
 use Rattle.sts_syntax.specs.Annotations as s
 use Rattle.sts_syntax.specs.Annotations.{Annotation}
 use Rattle.sts_syntax.specs.Trees as t
-use Rattle.sts_syntax.specs.Trees.{Parameter, Declaration, Declare, Routine, Does, OptionalTree, absent, present, done, ended, next}
+use Rattle.sts_syntax.specs.Trees.{Parameter, Declare, Does, absent, present, done, ended, next}
 use Rattle.sts_syntax.specs.Programs.{ClassMember, Field, Method, Constructor, TopLevel, Class, Function, Main, Program}
 use Rattle.sts_scope.specs.Failures.{Failure}
 use Rattle.sts_scope.specs.Scopes.{heading_refusal}
@@ -16,12 +16,9 @@ names = codes "a" ∷ codes "b" ∷ codes "c" ∷ codes "$d" ∷ []
 abbrev pub refused : Program → Option Failure
 refused text = heading_refusal names [] text
 
-abbrev pub one : OptionalTree
-one = present (t.Num 0 (pos 1))
-
 -- let NAME = 1
 abbrev pub global : ℕ → ℕ → TopLevel
-global at x = Main (t.Let 0 false (next (Declare at x None one) ended))
+global at x = Main (t.Let 0 false (next (Declare at x None (present (t.Num 0 (pos 1)))) ended))
 
 abbrev pub parameter : ℕ → ℕ → Option Annotation → Parameter
 parameter at x shape = record { at = at; name = x; shape = shape }
@@ -45,8 +42,8 @@ abbrev pub untyped_field : ℕ → ℕ → ClassMember
 untyped_field at x = Field (Declare at x None absent)
 
 -- NAME() { }
-abbrev pub method : ℕ → ℕ → ClassMember
-method at x = Method x (Does at [] None done false)
+abbrev pub empty_method : ℕ → ℕ → ClassMember
+empty_method at x = Method x (Does at [] None done false)
 
 abbrev pub constructor : ℕ → ClassMember
 constructor at = Constructor (Does at [] None done false)

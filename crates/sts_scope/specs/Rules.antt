@@ -1,5 +1,6 @@
 -- The type of a node from the types of its parts.
 use Rattle.std.specs.Prelude.{ℕ, zero, suc, Bool, true, false, not, ◌&&◌, ◌||◌, ◌==◌, Option, Some, None, List, [], ◌∷◌, length, slice_get, if◌then◌else◌, codes}
+use Rattle.std.specs.Option.{option_and_then, option_flatten}
 use Rattle.sts_syntax.specs.BoardTable.{same_bytes}
 use Rattle.sts_scope.specs.declared.kinds.StaticType.{StaticType}
 use Rattle.sts_scope.specs.declared.entries.DeclarationKind.{DeclarationKind}
@@ -26,7 +27,11 @@ reaches classes (suc k) m n = m == n || elim (base_of classes m) [ None ↦ fals
 
 -- two classes, of which the second is the first or a base of it
 unfoldable pub below : List ClassHead → StaticType → StaticType → Bool
-below classes s t = elim (class_of s) [ None ↦ false | Some m ↦ elim (class_of t) [ None ↦ false | Some n ↦ reaches classes (length classes) m n ] ]
+below classes s t =
+    elim (class_of s) [
+      | None ↦ false
+      | Some m ↦ elim (class_of t) [ None ↦ false | Some n ↦ reaches classes (length classes) m n ]
+    ]
 
 -- A value of the first type goes where the second is given: of the same type, of a subclass, null, or `[]`.
 unfoldable pub goes : List ClassHead → StaticType → StaticType → Bool
@@ -36,8 +41,7 @@ goes classes s t = same s t || below classes s t || (same s null && takes_null t
 unfoldable pub all_go : List ClassHead → List StaticType → List StaticType → Bool
 all_go classes [] [] = true
 all_go classes (s ∷ ss) (t ∷ ts) = goes classes s t && all_go classes ss ts
-all_go classes [] (t ∷ ts) = false
-all_go classes (s ∷ ss) [] = false
+all_go classes _ _ = false
 
 -- all go to one
 unfoldable pub all_go_to : List ClassHead → StaticType → List StaticType → Bool
@@ -47,12 +51,14 @@ all_go_to classes t (s ∷ ss) = goes classes s t && all_go_to classes t ss
 -- `==` takes two equal types other than nothing, a class and a base of it, or null and a type that takes null
 unfoldable pub comparable : List ClassHead → StaticType → StaticType → Bool
 comparable classes s t =
-    (same s t && not (same s nothing)) || below classes s t || below classes t s || (same s null && takes_null t) || (same t null && takes_null s)
+    (same s t && not (same s nothing)) || below classes s t || below classes t s || (same s null && takes_null t)
+    || (same t null && takes_null s)
 
 -- What operators take: numbers, of which they give one; equality two values that may be compared; order two numbers.
 abbrev pub is_arithmetic : ℕ → Bool
 is_arithmetic op =
-    op == BIT_OR || op == BIT_XOR || op == BIT_AND || op == SHIFT_LEFT || op == SHIFT_RIGHT || op == SHIFT_RIGHT_UNSIGNED
+    op == BIT_OR || op == BIT_XOR || op == BIT_AND || op == SHIFT_LEFT || op == SHIFT_RIGHT
+    || op == SHIFT_RIGHT_UNSIGNED
     || op == ADD || op == SUBTRACT || op == MULTIPLY || op == DIVIDE || op == REMAINDER
 
 abbrev pub is_equality : ℕ → Bool
@@ -64,7 +70,8 @@ is_order op = op == LESS || op == GREATER || op == AT_MOST || op == AT_LEAST
 unfoldable pub operate : List ClassHead → ℕ → StaticType → StaticType → Option StaticType
 operate classes op s t =
     if is_equality op then (if comparable classes s t then Some boolean else None)
-    else if same s number && same t number then (if is_arithmetic op then Some number else if is_order op then Some boolean else None)
+    else if same s number && same t number
+    then (if is_arithmetic op then Some number else if is_order op then Some boolean else None)
     else None
 
 -- prefix operators
@@ -91,7 +98,8 @@ choose classes q s t = if same q boolean then common classes s t else None
 -- a value goes into a target; `+=` and its like work on the target first
 unfoldable pub assign : List ClassHead → Option ℕ → StaticType → StaticType → Option StaticType
 assign classes None t s = if goes classes s t then Some t else None
-assign classes (Some op) t s = elim (operate classes op t s) [ None ↦ None | Some u ↦ if same u t then Some t else None ]
+assign classes (Some op) t s =
+    elim (operate classes op t s) [ None ↦ None | Some u ↦ if same u t then Some t else None ]
 
 -- `++` and `--`
 unfoldable pub counted : StaticType → Option StaticType
@@ -106,23 +114,19 @@ items_type classes t ts = if all_go_to classes t ts then array_of t else None
 
 -- the type of a declaration, by its number
 abbrev pub kind_at : Known → ℕ → Option StaticType
-kind_at k d = elim (slice_get k.kinds d) [ None ↦ None | Some kind ↦ kind ]
+kind_at k d = option_flatten (slice_get k.kinds d)
 
 abbrev pub local_kind : List Local → ℕ → Option StaticType
-local_kind locals i = elim (slice_get locals i) [ None ↦ None | Some l ↦ l.kind ]
+local_kind locals i = option_and_then (λ l. l.kind) (slice_get locals i)
 
 abbrev pub name_kind : Known → NameScope → Found → Option StaticType
 name_kind k p (found.Local i) = local_kind p.locals i
 name_kind k p (found.Global d) = kind_at k d
-name_kind k p found.Captured = None
-name_kind k p (found.Function d) = None
-name_kind k p (found.Class c) = None
-name_kind k p found.Unknown = None
+name_kind k p _ = None
 
 abbrev pub this_kind : This → Option StaticType
 this_kind (this.Object c) = Some (object c)
-this_kind (this.Hidden c) = None
-this_kind this.Nowhere = None
+this_kind _ = None
 
 -- a name that is set must not be `const`
 abbrev pub local_fixed : List Local → ℕ → Bool
@@ -168,11 +172,8 @@ part_of spellings k t m = if is_array t then array_part spellings (item t) m els
 -- the type of a member that is read
 abbrev pub part_kind : Known → Part → Option StaticType
 part_kind k (part.Field d) = kind_at k d
-part_kind k (part.Method d) = None
 part_kind k part.Length = Some number
-part_kind k (part.Push t) = None
-part_kind k (part.Pop t) = None
-part_kind k part.Missing = None
+part_kind k _ = None
 
 abbrev pub part_settable : Part → Bool
 part_settable (part.Field d) = true
@@ -187,10 +188,11 @@ maker_from classes zero c = []
 maker_from classes (suc n) c =
     elim (slice_get classes c) [
       | None ↦ []
-      | Some class ↦ elim class.takes [
-        | Some takes ↦ takes
-        | None ↦ elim class.base [ None ↦ [] | Some b ↦ maker_from classes n b ]
-      ]
+      | Some class ↦
+          elim class.takes [
+            | Some takes ↦ takes
+            | None ↦ elim class.base [ None ↦ [] | Some b ↦ maker_from classes n b ]
+          ]
     ]
 
 abbrev pub maker_takes_of : List ClassHead → ℕ → List StaticType

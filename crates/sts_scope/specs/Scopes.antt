@@ -32,16 +32,19 @@ library_entries library text = length (entries_from (all_names library text) 0 l
 abbrev pub library_classes : Program → Program → ℕ
 library_classes library text = length (class_names library)
 
--- The first failure of names, else of bases, else of headings: of a text before which stand d declarations and c classes.
+-- The first failure of names, else of bases, else of headings: of a text before which stand d declarations and c
+-- classes.
 abbrev pub passes : List (List ℕ) → Program → Naming → List Entry → List ClassHead → ℕ → ℕ → Option Failure
 passes spellings text names entries classes d c =
-    names_failure spellings entries d (drop d entries) then bases_failure (drop c classes) then chains_failure classes c (drop c classes)
+    names_failure spellings entries d (drop d entries) then bases_failure (drop c classes)
+    then chains_failure classes c (drop c classes)
     then headings_failure names entries classes c d text
 
 -- The spellings are those of the table of names. The library's own are never refused.
 abbrev pub heading_refusal : List (List ℕ) → Program → Program → Option Failure
 heading_refusal spellings library text =
-    passes spellings text (all_names library text) (all_entries library text) (all_classes library text) (library_entries library text) (library_classes library text)
+    passes spellings text (all_names library text) (all_entries library text) (all_classes library text)
+    (library_entries library text) (library_classes library text)
 
 -- the names of those of a sort, in text order
 abbrev pub is_global : DeclarationKind → Bool

@@ -4,7 +4,8 @@ ghost use Rattle.std.specs.List.{position_from};
 ghost use Rattle.sts_syntax.specs.Programs.{top_level, top_levels, class_member, class_members};
 ghost use Rattle.sts_syntax.specs.Views.{statement, declaration, declarations, routine, parameters, optional_annotation};
 ghost use Rattle.sts_syntax.specs.Annotations.{annotation};
-ghost use Rattle.sts_scope.specs.Values.{value_at, or_else};
+ghost use Rattle.std.specs.Option.{option_or};
+ghost use Rattle.sts_scope.specs.Values.{value_at};
 ghost use Rattle.sts_scope.specs.Entries as entry;
 ghost use Rattle.sts_scope.specs.Kinds.{nothing};
 ghost use Rattle.sts_scope.specs.Adding.{Adds};
@@ -18,9 +19,7 @@ use sts_syntax::{Binding, Body, Item, Param, Shape};
 /// Numbers a class, unless its name has a number already.
 fn number_class(classes: &mut ByNumber, count: u32, item: &Item) -> Result<u32, NoMemory>
     requires { count + length (entry.item_class (top_level item.now)) < 2 ^ 32 }
-    ensures names { OnOk result
-        ((y : ℕ) → value_at classes.new.values.items y ≡ or_else (value_at classes.old.values.items y)
-        (position_from (λ z. z == y) count (entry.item_class (top_level item.now)))) }
+    ensures names { OnOk result ((y : ℕ) → value_at classes.new.values.items y ≡ option_or (value_at classes.old.values.items y) (position_from (λ z. z == y) count (entry.item_class (top_level item.now)))) }
     ensures count { IfOk result (λ n. n ≡ count + length (entry.item_class (top_level item.now))) }
 {
     match item {
@@ -44,9 +43,7 @@ fn number_class(classes: &mut ByNumber, count: u32, item: &Item) -> Result<u32, 
 /// Numbers the classes of some parts of a text, behind those that have numbers.
 pub fn number_classes(classes: &mut ByNumber, first: u32, items: &[Item]) -> Result<u32, NoMemory>
     requires { first + length (entry.class_names (top_levels items.now)) < 2 ^ 32 }
-    ensures names { OnOk result
-        ((y : ℕ) → value_at classes.new.values.items y ≡ or_else (value_at classes.old.values.items y)
-        (position_from (λ z. z == y) first (entry.class_names (top_levels items.now)))) }
+    ensures names { OnOk result ((y : ℕ) → value_at classes.new.values.items y ≡ option_or (value_at classes.old.values.items y) (position_from (λ z. z == y) first (entry.class_names (top_levels items.now)))) }
     ensures count { IfOk result (λ n. n ≡ first + length (entry.class_names (top_levels items.now))) }
 {
     let mut count = first;

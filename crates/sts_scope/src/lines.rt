@@ -5,11 +5,12 @@ ghost use Rattle.std.specs.Option.{option_copied};
 ghost use Rattle.std.specs.BTreeMap.{get};
 ghost use Rattle.std.specs.Ordering.{nat_cmp};
 ghost use Rattle.persistent_maps.specs.Maps.{value_in};
-ghost use Rattle.sts_scope.specs.Values.{or_else};
+ghost use Rattle.std.specs.Option.{option_or};
 ghost use Rattle.sts_scope.specs.Lookup as look;
 ghost use Rattle.sts_scope.specs.Bases.{is_endless};
 ghost use Rattle.sts_scope.specs.Rules as rule;
 ghost use Rattle.sts_scope.specs.Lines as lines;
+ghost use Rattle.sts_scope.specs.inner.Lines as inner;
 ghost use Rattle.sts_scope.specs.Lines.{IsLine, AreLines};
 
 use crate::lookup::{base_of, is_endless, maker_takes, reaches};
@@ -38,7 +39,7 @@ pub fn put_members(
     own: &BTreeMap<u32, usize>,
     base: &PersistentMap,
 ) -> Result<PersistentMap, NoMemory>
-    ensures { IfOk result (λ made. (x : ℕ) → value_in made x ≡ or_else (get nat_cmp own.now x) (value_in base.now x)) }
+    ensures { IfOk result (λ made. (x : ℕ) → value_in made x ≡ option_or (get nat_cmp own.now x) (value_in base.now x)) }
 {
     let mut made = base.share()?;
     for (x, d) in own.iter().rev() {
@@ -59,7 +60,7 @@ fn line_at(all: &Table<Option<Line>>, c: usize) -> Option<&Line>
 
 /// The line above a class that has no base.
 fn no_line() -> Line
-    ensures { result ≡ lines.no_line }
+    ensures { result ≡ inner.no_line }
 {
     Line {
         len: 0,
@@ -71,7 +72,7 @@ fn no_line() -> Line
 
 /// The nearest class with a written constructor, where the base's is known.
 fn nearest_maker(class: &ClassHead, c: u32, above: Option<u32>) -> Option<u32>
-    ensures { result ≡ lines.nearest_maker class.now c above }
+    ensures { result ≡ inner.nearest_maker class.now c above }
 {
     match class.takes {
         Some(_) => Some(c),
@@ -190,8 +191,7 @@ fn see(
     classes: &[ClassHead],
     c: u32,
 ) -> Result<(), NoMemory>
-    ensures { OnOk result ((these : List ℕ) × (order.new.items ≡ order.old.items ++ these)
-        × lines.GoesUp classes.now seen.old seen.new (Some c) these) }
+    ensures { OnOk result ((these : List ℕ) × (order.new.items ≡ order.old.items ++ these) × inner.GoesUp classes.now seen.old seen.new (Some c) these) }
 {
     let mut next = Some(c);
     while let Some(c) = next {

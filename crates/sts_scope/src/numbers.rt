@@ -5,7 +5,7 @@ ghost use Rattle.std.specs.Ordering.{nat_cmp};
 ghost use Rattle.sts_scope.specs.declared.entries.Owner.{Owner as Belonging};
 ghost use Rattle.sts_scope.specs.Lookup.{same_owner};
 ghost use Rattle.persistent_maps.specs.Maps.{value_in};
-ghost use Rattle.sts_scope.specs.Values.{or_else};
+ghost use Rattle.std.specs.Option.{option_or};
 ghost use Rattle.sts_scope.specs.Symbols.{Notes, number_at, member_at};
 
 use crate::Owner;
@@ -78,8 +78,7 @@ fn note_member(
     x: u32,
     d: usize,
 ) -> Result<(), NoMemory>
-    ensures ok { OnOk result ((b y : ℕ) → member_at classes.new.items b y
-        ≡ or_else (member_at classes.old.items b y) (if c == b && (x == y) then Some d else None)) }
+    ensures ok { OnOk result ((b y : ℕ) → member_at classes.new.items b y ≡ option_or (member_at classes.old.items b y) (if c == b && (x == y) then Some d else None)) }
     ensures err { OnErr result ((b y : ℕ) → member_at classes.new.items b y ≡ member_at classes.old.items b y) }
 {
     let at = c as usize;
@@ -114,10 +113,8 @@ impl Numbers {
 
     /// Notes a number for a name of an owner, unless it has one. After `NoMemory` nothing is noted.
     pub fn note(&mut self, owner: Owner, x: u32, d: usize) -> Result<(), NoMemory>
-        ensures ok { OnOk result ((other : Belonging) (y : ℕ) → number_at self.new other y
-            ≡ or_else (number_at self.old other y) (if same_owner owner other && (x == y) then Some d else None)) }
-        ensures err { OnErr result
-            ((other : Belonging) (y : ℕ) → number_at self.new other y ≡ number_at self.old other y) }
+        ensures ok { OnOk result ((other : Belonging) (y : ℕ) → number_at self.new other y ≡ option_or (number_at self.old other y) (if same_owner owner other && (x == y) then Some d else None)) }
+        ensures err { OnErr result ((other : Belonging) (y : ℕ) → number_at self.new other y ≡ number_at self.old other y) }
     {
         match owner {
             Owner::Whole => note(&mut self.whole, x, d),
@@ -127,8 +124,7 @@ impl Numbers {
 
     /// Puts the numbers of the names of the class c over those of another map.
     pub fn put_members(&self, c: u32, base: &PersistentMap) -> Result<PersistentMap, NoMemory>
-        ensures { IfOk result
-            (λ made. (x : ℕ) → value_in made x ≡ or_else (member_at self.now.classes.items c x) (value_in base.now x)) }
+        ensures { IfOk result (λ made. (x : ℕ) → value_in made x ≡ option_or (member_at self.now.classes.items c x) (value_in base.now x)) }
     {
         match self.classes.get(c as usize) {
             None => base.share(),

@@ -3,7 +3,7 @@ ghost use Rattle.std.specs.Prelude.{◌≡◌, ℕ, IfOk, [], ◌∷◌, ◌++�
 ghost use Rattle.std.specs.Option.{option_copied};
 ghost use Rattle.persistent_maps.specs.Maps.{value_in};
 ghost use Rattle.sts_scope.specs.declared.entries.Owner.TheVariants as o;
-ghost use Rattle.sts_scope.specs.Values.{or_else};
+ghost use Rattle.std.specs.Option.{option_or};
 ghost use Rattle.sts_scope.specs.Lookup as look;
 
 use crate::lookup::base_of;
@@ -109,8 +109,7 @@ impl SymbolTable {
     /// Puts the members of the class c over those of its base.
     #[tactic(auto, using(crate::proofs::Longer::own_put))]
     pub fn put_members(&self, c: u32, base: &PersistentMap) -> Result<PersistentMap, NoMemory>
-        ensures { IfOk result (λ made. (x : ℕ)
-            → value_in made x ≡ or_else (look.entry_number self.now (o.Class c) x) (value_in base.now x)) }
+        ensures { IfOk result (λ made. (x : ℕ) → value_in made x ≡ option_or (look.entry_number self.now (o.Class c) x) (value_in base.now x)) }
     {
         self.numbers.put_members(c, base)
     }

@@ -7,13 +7,14 @@ use Rattle.sts_scope.specs.declared.entries.Owner.{Owner}
 use Rattle.sts_scope.specs.declared.entries.Owner.TheVariants as o
 use Rattle.sts_scope.specs.declared.entries.Entry.{Entry}
 use Rattle.sts_scope.specs.Failures.{Failure, ◌then◌}
-use Rattle.sts_scope.specs.Values.{value_at, or_else}
+use Rattle.std.specs.Option.{option_or}
+use Rattle.sts_scope.specs.Values.{value_at}
 use Rattle.sts_scope.specs.Lookup.{declares, entry_number, is_second}
 use Rattle.sts_scope.specs.Globals.{name_failure, names_failure}
 use Rattle.text_headings.specs.Seen.{AreSeen}
 use Rattle.sts_scope.proofs.Laws.{position-append, drop_at}
 
-some_else : (a : Option ℕ) (b : Bool) (n : ℕ) → is_some (or_else a (cond b (Some n) None)) ≡ (b || is_some a)
+some_else : (a : Option ℕ) (b : Bool) (n : ℕ) → is_some (option_or a (cond b (Some n) None)) ≡ (b || is_some a)
 some_else None true n = refl
 some_else None false n = refl
 some_else (Some x) true n = refl

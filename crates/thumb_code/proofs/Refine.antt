@@ -2,10 +2,11 @@
 use Rattle.std.proofs.Common.{◌≡◌, ℕ, ◌%◌, ◌<◌, ◌≤◌, min, List, [], ◌∷◌, ◌++◌, map, Bool, true, false, Option, Some, None, refl, sym, subst, ◌∙◌, append_assoc, arith, nat_lt}
 use Rattle.std.proofs.lemmas.Bool.Decides.{nat_tests}
 use Rattle.thumb_code.specs.Effect.{Outcome, Goes, Asks, Stops, Access, Effect}
-use Rattle.thumb_code.specs.Memory.{Memory, Executed, Done, Asked, Stopped, first_of, first_fault, load_all, store_all, finished, accessed, execute, after_move, execute_moving}
+use Rattle.std.specs.Option.{option_or}
+use Rattle.thumb_code.specs.Memory.{Memory, Executed, Done, Asked, Stopped, first_fault, load_all, store_all, finished, accessed, execute, after_move, execute_moving}
 use Rattle.thumb_code.specs.Refines.{Refines, DoesTheSame}
 
-both_none : (o p : Option ℕ) → first_of o p ≡ None → (o ≡ None) × (p ≡ None)
+both_none : (o p : Option ℕ) → option_or o p ≡ None → (o ≡ None) × (p ≡ None)
 both_none (Some k) p h = cc
 both_none None p h = (refl, h)
 

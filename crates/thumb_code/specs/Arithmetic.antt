@@ -1,4 +1,5 @@
--- Sums, shifts and the flags that they set (ARM DDI 0419, A2.2.1). The flags are a number of four bits: N is 8, Z is 4, C is 2, V is 1.
+-- Sums, shifts and the flags that they set (ARM DDI 0419, A2.2.1). The flags are a number of four bits: N is 8, Z is 4,
+-- C is 2, V is 1.
 use Rattle.std.specs.Prelude.{ℕ, ◌+◌, ◌*◌, ◌/◌, ◌%◌, ◌^◌, ◌-◌, min, Bool, ◌&&◌, ◌==◌, nat_lt, if◌then◌else◌}
 use Rattle.thumb_code.specs.RegisterFile.{word}
 
@@ -30,8 +31,9 @@ inverted y = 2 ^ 32 - 1 - y
 abbrev pub sum_of : ℕ → ℕ → ℕ → ℕ
 sum_of x y c = word (x + y + c)
 
--- The sum of two words with signs isn't a word with a sign: both signs are the same, and the sum's is the other. That this is the manual's
--- overflow of AddWithCarry, SInt(result) other than the sum with signs, is proved (sums_overflow_where_signed_ones_do).
+-- The sum of two words with signs isn't a word with a sign: both signs are the same, and the sum's is the other. That
+-- this is the manual's overflow of AddWithCarry, SInt(result) other than the sum with signs, is proved
+-- (sums_overflow_where_signed_ones_do).
 abbrev pub overflows : ℕ → ℕ → ℕ → Bool
 overflows x y v = sign x == sign y && nat_lt (sign v + sign x) 2 && nat_lt 0 (sign v + sign x)
 

@@ -1,13 +1,13 @@
 -- What each instruction does (ARM DDI 0419, A6.7), over whatever memory.
 use Rattle.std.specs.Prelude.{ℕ, ◌+◌, ◌*◌, ◌/◌, ◌%◌, ◌^◌, ◌-◌, [], ◌∷◌, ◌++◌, if◌then◌else◌, bit_and, bit_or, bit_xor}
 use Rattle.thumb_code.specs.declared.instructions.Instr.{Instr}
-use Rattle.thumb_code.specs.declared.instructions.Instr.TheVariants.{LslImm, LsrImm, AsrImm, AddReg, SubReg, AddImm3, SubImm3, MovImm, CmpImm, AddImm8, SubImm8, And, Eor, LslReg, LsrReg, AsrReg, Adc, Sbc, Ror, Tst, Rsb, CmpReg, Cmn, Orr, Mul, Bic, Mvn, AddHigh, CmpHigh, MovHigh, Bx, Blx, LdrPc, StrReg, StrhReg, StrbReg, Ldrsb, LdrReg, LdrhReg, LdrbReg, Ldrsh, StrImm, LdrImm, StrbImm, LdrbImm, StrhImm, LdrhImm, StrSp, LdrSp, Adr, AddSp, AddSpImm, SubSpImm, Sxth, Sxtb, Uxth, Uxtb, Push, Pop, Rev, Rev16, Revsh, Bkpt, Nop, Yield, Wfe, Wfi, Sev, Stm, Ldm, BCond, Udf, Svc, B, Bl}
+use Rattle.thumb_code.specs.declared.instructions.Instr.TheVariants.{LslImm, LsrImm, AsrImm, AddReg, SubReg, AddImm3, SubImm3, MovImm, CmpImm, AddImm8, SubImm8, And, Eor, LslReg, LsrReg, AsrReg, Adc, Sbc, Ror, Tst, Rsb, CmpReg, Cmn, Orr, Mul, Bic, Mvn, AddHigh, CmpHigh, MovHigh, Bx, Blx, LdrPc, StrReg, StrhReg, StrbReg, Ldrsb, LdrReg, LdrhReg, LdrbReg, Ldrsh, StrImm, LdrImm, StrbImm, LdrbImm, StrhImm, LdrhImm, StrSp, LdrSp, Adr, AddSp, AddSpImm, SubSpImm, Sxth, Sxtb, Uxth, Uxtb, Push, Pop, Rev, Rev16, Revsh, Bkpt, Stm, Ldm, BCond, Udf, Svc, B, Bl}
 use Rattle.thumb_code.specs.declared.register_file.Registers.{Registers}
 use Rattle.thumb_code.specs.Faults.{undefined, breakpoint}
 use Rattle.thumb_code.specs.RegisterFile.{word, is_odd, aligned, low, pc_read, reg, listed, values}
 use Rattle.thumb_code.specs.Arithmetic.{nz, carry, inverted, sum_flags, lsl, lsr, asr, ror, or_32, signed, swapped}
 use Rattle.thumb_code.specs.Conditions.{holds}
-pub use Rattle.thumb_code.specs.Forms.{Outcome, Goes, Asks, Stops, Access, Effect, ends, go, puts, puts_with, flags_are, adds, subs, compares, logic, shifts, moves, jumps, target, access, first_word, loads, unsigned, stores, word_accesses, words_to, pushes, pops, stores_many, loads_many}
+pub use Rattle.thumb_code.specs.Forms.{Outcome, Goes, Asks, Stops, Access, Effect, ends, go, puts, puts_with, flags_are, adds, subs, compares, logic, shifts, moves, jumps, target, access, loads, unsigned, stores, word_accesses, words_to, pushes, pops, stores_many, loads_many}
 
 -- The instruction's effect, where s.pc is its own address and next the one behind it.
 abbrev pub effect : ℕ → Registers → Instr → Effect
@@ -74,11 +74,6 @@ effect next s (Rev rd rm) = puts next s rd (swapped (low s rm % 2 ^ 16) * 2 ^ 16
 effect next s (Rev16 rd rm) = puts next s rd (swapped (low s rm / 2 ^ 16) * 2 ^ 16 + swapped (low s rm % 2 ^ 16))
 effect next s (Revsh rd rm) = puts next s rd (signed 16 (swapped (low s rm % 2 ^ 16)))
 effect next s (Bkpt imm) = ends s.sp (Stops breakpoint)
-effect next s Nop = go next s
-effect next s Yield = go next s
-effect next s Wfe = go next s
-effect next s Wfi = go next s
-effect next s Sev = go next s
 effect next s (Stm rn list) = stores_many next s rn (listed list)
 effect next s (Ldm rn list) = loads_many next s rn (listed list) (is_odd (list / 2 ^ rn))
 effect next s (BCond cond offset) = if holds s.flags cond then go (target s offset) s else go next s
@@ -86,3 +81,5 @@ effect next s (Udf imm) = ends s.sp (Stops undefined)
 effect next s (Svc imm) = ends s.sp (Asks imm (record s { pc = next }))
 effect next s (B offset) = go (target s offset) s
 effect next s (Bl offset) = go (target s offset) (record s { lr = word (next + 1) })
+-- The hints: NOP, YIELD, WFE, WFI and SEV.
+effect next s _ = go next s

@@ -82,13 +82,14 @@ target s offset = word (pc_read s + cast_unsigned w32 offset)
 abbrev pub access : ℕ → ℕ → Access
 access at bytes = record { at = word at; bytes = bytes }
 
--- The first of the words that were loaded.
-abbrev pub first_word : List ℕ → ℕ
-first_word ws = slice_index ws 0
+-- Loads and stores that leave SP, and R0 to R12 as the words that were loaded make them.
+abbrev pub transfers : ℕ → Registers → List Access → List (Access × ℕ) → (List ℕ → List ℕ) → Effect
+transfers next s loads stores r =
+    record { sp = s.sp; loads = loads; stores = stores; after = λ ws. Goes (record s { r = r ws; pc = next }) }
 
 -- A load of so many bytes into a low register, through f.
 abbrev pub loads : ℕ → Registers → ℕ → (ℕ → ℕ) → ℕ → ℕ → Effect
-loads next s rt f at bytes = record { sp = s.sp; loads = access at bytes ∷ []; stores = []; after = λ ws. Goes (record s { r = slice_set s.r rt (f (first_word ws)); pc = next }) }
+loads next s rt f at bytes = transfers next s (access at bytes ∷ []) [] (λ ws. slice_set s.r rt (f (slice_index ws 0)))
 
 -- With zeros above.
 abbrev pub unsigned : ℕ → ℕ
@@ -96,7 +97,7 @@ unsigned v = v
 
 -- A store of a low register's low bytes.
 abbrev pub stores : ℕ → Registers → ℕ → ℕ → ℕ → Effect
-stores next s rt at bytes = record { sp = s.sp; loads = []; stores = (access at bytes, low s rt % 2 ^ (bytes * 8)) ∷ []; after = λ _. Goes (record s { pc = next }) }
+stores next s rt at bytes = transfers next s [] ((access at bytes, low s rt % 2 ^ (bytes * 8)) ∷ []) (λ _. s.r)
 
 -- So many words from an address on.
 abbrev pub word_accesses : ℕ → ℕ → List Access
@@ -132,10 +133,10 @@ pops next s ks p =
 -- The words of the registers from the base on, which goes up behind the last.
 abbrev pub stores_many : ℕ → Registers → ℕ → List ℕ → Effect
 stores_many next s rn ks =
-    record { sp = s.sp; loads = []; stores = words_to (low s rn) (values s ks); after = λ _. Goes (record s { r = slice_set s.r rn (word (low s rn + 4 * length ks)); pc = next }) }
+    transfers next s [] (words_to (low s rn) (values s ks)) (λ _. slice_set s.r rn (word (low s rn + 4 * length ks)))
 
 -- The words from the base on into the registers. The base goes up behind the last, but where a word is loaded into it.
 abbrev pub loads_many : ℕ → Registers → ℕ → List ℕ → Bool → Effect
 loads_many next s rn ks loads_base =
     let r = if loads_base then s.r else slice_set s.r rn (word (low s rn + 4 * length ks)) in
-    record { sp = s.sp; loads = word_accesses (low s rn) (length ks); stores = []; after = λ ws. Goes (record s { r = filled r ks ws; pc = next }) }
+    transfers next s (word_accesses (low s rn) (length ks)) [] (filled r ks)

@@ -16,9 +16,11 @@ pub record State : Type 0 where
 abbrev pub step : State → Stepped Ram
 step s = ran (execute ram_memory s.memory) s.registers (fetched s.memory.flash s.memory.base s.registers.pc)
 
--- The registers with which a fiber begins: its code address less 1 is PC, SP is the base, LR is where its function returns to.
+-- The registers with which a fiber begins: its code address less 1 is PC, SP is the base, LR is where its function
+-- returns to.
 abbrev pub begun : ℕ → ℕ → ℕ → Registers
-begun base return_to code = record { r = replicate 13 0; sp = base; lr = return_to; pc = word (code + (2 ^ 32 - 1)); flags = 0 }
+begun base return_to code =
+    record { r = replicate 13 0; sp = base; lr = return_to; pc = word (code + (2 ^ 32 - 1)); flags = 0 }
 
 -- Word 0 of an image is the base, word 1 the main function's code address, word 2 where a fiber's function returns to.
 abbrev pub base_of : List ℕ → ℕ
@@ -36,5 +38,11 @@ return_of flash = flash_word flash 8
 abbrev pub reset : List ℕ → State
 reset flash = record {
   registers = begun (base_of flash) (return_of flash) (main_of flash);
-  memory = record { flash = flash; globals = replicate 256 0; arena = replicate arena_words 0; stack = replicate 1024 0; base = base_of flash };
+  memory = record {
+    flash = flash;
+    globals = replicate 256 0;
+    arena = replicate arena_words 0;
+    stack = replicate 1024 0;
+    base = base_of flash;
+  };
 }

@@ -84,7 +84,9 @@ flash_half flash at = flash_byte flash at + flash_byte flash (at + 1) * 2 ^ 8
 
 -- Four bytes of flash, the low one first.
 abbrev pub flash_word : List ℕ → ℕ → ℕ
-flash_word flash at = flash_byte flash at + flash_byte flash (at + 1) * 2 ^ 8 + flash_byte flash (at + 2) * 2 ^ 16 + flash_byte flash (at + 3) * 2 ^ 24
+flash_word flash at =
+    flash_byte flash at + flash_byte flash (at + 1) * 2 ^ 8 + flash_byte flash (at + 2) * 2 ^ 16
+    + flash_byte flash (at + 3) * 2 ^ 24
 
 -- The place of an address among the words from another on.
 abbrev pub place : ℕ → ℕ → ℕ

@@ -15,8 +15,10 @@ over_moving m move r t e = execute_moving m move t r.sp e
 -- R at s u says that s and u belong together with SP at this number. Faults and ranges are then the same; a
 -- load gives the same for some used free words, whatever follows them; a store is the same; and where SP goes
 -- to a place in range, some used free words keep them together.
-pub record Refines {S U : Type 0} (m : Memory S) (w : Memory (U × List ℕ)) (moved : U × List ℕ → ℕ → U × List ℕ) (R : ℕ → S → U → Type 0) : Type 0 where
-  pub fault : (at : ℕ) (s : S) (u : U) (free : List ℕ) → R at s u → (b : Bool) (a : Access) → w.fault (u, free) b a ≡ m.fault s b a
+pub record Refines {S U : Type 0} (m : Memory S) (w : Memory (U × List ℕ)) (moved : U × List ℕ → ℕ → U × List ℕ)
+    (R : ℕ → S → U → Type 0) : Type 0 where
+  pub fault : (at : ℕ) (s : S) (u : U) (free : List ℕ) → R at s u → (b : Bool) (a : Access)
+      → w.fault (u, free) b a ≡ m.fault s b a
   pub has_sp : (at : ℕ) (s : S) (u : U) (free : List ℕ) → R at s u → (n : ℕ) → w.has_sp (u, free) n ≡ m.has_sp s n
   pub sp_in : (at : ℕ) (s : S) (u : U) → R at s u → (m.has_sp s at ≡ true) × (at % 4 ≡ 0)
   pub load : (at : ℕ) (s : S) (u : U) → R at s u → (a : Access) → m.fault s false a ≡ None →

@@ -99,7 +99,10 @@ row (Udf imm) = (8, 0b11011110) ∷ (8, imm) ∷ []
 row (Svc imm) = (8, 0b11011111) ∷ (8, imm) ∷ []
 -- Unconditional branch (A5.2), and BL (A5.3.1), where J1 is NOT(I1 EOR S) and J2 is NOT(I2 EOR S).
 row (B offset) = (5, 0b11100) ∷ (11, bits_from 1 11 offset) ∷ []
-row (Bl offset) = (5, 0b11110) ∷ (1, bits_from 24 1 offset) ∷ (10, bits_from 12 10 offset) ∷ (2, 0b11) ∷ (1, not_eor (bits_from 23 1 offset) (bits_from 24 1 offset)) ∷ (1, 0b1) ∷ (1, not_eor (bits_from 22 1 offset) (bits_from 24 1 offset)) ∷ (11, bits_from 1 11 offset) ∷ []
+row (Bl offset) =
+    (5, 0b11110) ∷ (1, bits_from 24 1 offset) ∷ (10, bits_from 12 10 offset) ∷ (2, 0b11)
+    ∷ (1, not_eor (bits_from 23 1 offset) (bits_from 24 1 offset)) ∷ (1, 0b1)
+    ∷ (1, not_eor (bits_from 22 1 offset) (bits_from 24 1 offset)) ∷ (11, bits_from 1 11 offset) ∷ []
 
 -- The number that parts spell, behind bits that are read already.
 abbrev pub number_after : ℕ → List (ℕ × ℕ) → ℕ

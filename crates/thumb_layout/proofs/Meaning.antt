@@ -1,11 +1,11 @@
 -- Laid pieces mean their effects.
-use Rattle.std.proofs.Common.{zero, suc, ◌≡◌, ℕ, ◌+◌, ◌-◌, ◌/◌, ◌<◌, List, Bool, true, false, Some, refl, sym, ap, ◌∙◌, arith, slice_set, slice_get, ◌==◌}
+use Rattle.std.proofs.Common.{zero, suc, ◌≡◌, ℕ, ◌+◌, ◌-◌, ◌/◌, ◌<◌, List, Bool, true, false, not, Some, refl, sym, ap, ◌∙◌, arith, slice_set, slice_get, ◌==◌}
 use Rattle.std.proofs.lemmas.Bool.Decides.{nat_tests}
 use Rattle.thumb_code.specs.declared.instructions.Instr.{Instr}
 use Rattle.thumb_code.specs.declared.instructions.Instr.TheVariants.{MovImm, BCond, B, Bl}
 use Rattle.thumb_code.specs.declared.register_file.Registers.{Registers}
 use Rattle.thumb_code.specs.RegisterFile.{is_odd}
-use Rattle.thumb_code.specs.Conditions.{holds, is_met, is_not}
+use Rattle.thumb_code.specs.Conditions.{holds, is_met}
 use Rattle.thumb_code.specs.Effect.{Effect, effect, go, puts_with}
 use Rattle.thumb_code.specs.Memory.{Done}
 use Rattle.thumb_code.specs.Step.{Fetched, Found, Stepped, On, Served, Faulted, stepped_at, ran}
@@ -60,11 +60,11 @@ entered over flash At m fetch at a s t h e (Over o n f g) = (
       (ap (λ k. ran (over s t) s (fetch k)) e ∙ (ap (ran (over s t) s) f ∙ (ap (stepped_at s.pc) (m.goes (moved s.pc o) s t h) ∙ ap (λ k. On (record s { pc = k }) t) (ap (λ k. moved k o) e ∙ g)))),
 )
 
-not_not : (b : Bool) → b ≡ is_not (is_not b)
+not_not : (b : Bool) → b ≡ not (not b)
 not_not true = refl
 not_not false = refl
 
-opposite_from : (f c : ℕ) (b : Bool) → is_odd c ≡ b → holds f (opposite c) ≡ is_not (holds f c)
+opposite_from : (f c : ℕ) (b : Bool) → is_odd c ≡ b → holds f (opposite c) ≡ not (holds f c)
 opposite_from f c false e =
     let i : is_odd (c + 1) ≡ true = grind (arith, nat_tests) in
     let j : (c + 1) / 2 ≡ c / 2 = grind (arith, nat_tests) in
@@ -74,7 +74,7 @@ opposite_from f c true e =
     let j : (c - 1) / 2 ≡ c / 2 = grind (arith, nat_tests) in
     rw e (rw i (rw j (not_not (is_met f c))))
 
-pub holds_opposite : (f c : ℕ) → holds f (opposite c) ≡ is_not (holds f c)
+pub holds_opposite : (f c : ℕ) → holds f (opposite c) ≡ not (holds f c)
 holds_opposite f c = opposite_from f c (is_odd c) refl
 
 -- From an address on, the machine comes to one step with this effect.
@@ -106,21 +106,21 @@ branches over flash At m fetch p i c l a s t h false u (Short o k f g w) = let n
     direct over flash At m fetch 3 a (p.behind i) (BCond c o) s t (piece_effect p i s (Go c l)) (omega arith) f (rw n (rw u refl))
 branches over flash At m fetch p i c l a s t h true u (Middle o o' n k f g f' g' w) =
     let j : (c == 14) ≡ false = grind (arith, nat_tests) in
-    let z : holds s.flags (opposite c) ≡ false = holds_opposite s.flags c ∙ ap is_not u in
+    let z : holds s.flags (opposite c) ≡ false = holds_opposite s.flags c ∙ ap not u in
     let v = w s.lr in
     twice over flash At m fetch a n n (p.behind i) (BCond (opposite c) o) (B o') s t (piece_effect p i s (Go c l)) h f (rw z refl) f' (rw j (rw u (rw g' (rw v refl))))
 branches over flash At m fetch p i c l a s t h false u (Middle o o' n k f g f' g' w) =
     let j : (c == 14) ≡ false = grind (arith, nat_tests) in
-    let z : holds s.flags (opposite c) ≡ true = holds_opposite s.flags c ∙ ap is_not u in
+    let z : holds s.flags (opposite c) ≡ true = holds_opposite s.flags c ∙ ap not u in
     direct over flash At m fetch 3 a n (BCond (opposite c) o) s t (piece_effect p i s (Go c l)) (omega arith) f (rw z (rw j (rw u (rw g refl))))
 branches over flash At m fetch p i c l a s t h true u (Far o o' n k f g f' g' w) =
     let j : (c == 14) ≡ false = grind (arith, nat_tests) in
-    let z : holds s.flags (opposite c) ≡ false = holds_opposite s.flags c ∙ ap is_not u in
+    let z : holds s.flags (opposite c) ≡ false = holds_opposite s.flags c ∙ ap not u in
     let v = w s.lr in
     twice over flash At m fetch a n n (p.behind i) (BCond (opposite c) o) (Bl o') s t (piece_effect p i s (Go c l)) h f (rw z refl) f' (rw j (rw u (rw g' (rw v refl))))
 branches over flash At m fetch p i c l a s t h false u (Far o o' n k f g f' g' w) =
     let j : (c == 14) ≡ false = grind (arith, nat_tests) in
-    let z : holds s.flags (opposite c) ≡ true = holds_opposite s.flags c ∙ ap is_not u in
+    let z : holds s.flags (opposite c) ≡ true = holds_opposite s.flags c ∙ ap not u in
     direct over flash At m fetch 3 a n (BCond (opposite c) o) s t (piece_effect p i s (Go c l)) (omega arith) f (rw z (rw j (rw u (rw g refl))))
 branches over flash At m fetch p i c l a s t h b u (Always o k f g w) =
     let j : (c == 14) ≡ true = grind (arith, nat_tests) in let v = w s.lr in

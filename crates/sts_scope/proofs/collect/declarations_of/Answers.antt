@@ -4,7 +4,8 @@ use Rattle.std.specs.List.{position_from}
 use Rattle.std.specs.Prelude.{List}
 use Rattle.sts_syntax.specs.declared.units.Item.{Item}
 use Rattle.sts_scope.specs.declared.known.Known.{Known}
-use Rattle.sts_scope.specs.Values.{value_at, or_else}
+use Rattle.std.specs.Option.{option_or}
+use Rattle.sts_scope.specs.Values.{value_at}
 use Rattle.sts_scope.specs.Entries as entry
 use Rattle.sts_scope.specs.Adding.{Adds}
 use Rattle.sts_scope.proofs.Whole.{all_named, both_names, second_fits, all_fit, whole, IsWhole, first_is, library_within, classes_within}
@@ -50,11 +51,11 @@ returns c =
     let f = value_at c.number_classes-2.new.classes.values.items in
     let h = all_named lib txt c.number_classes.new.classes.values.items c.number_classes-2.new.classes.values.items c.in_ok-count.count
     (λ y. c.in_ok-count.ensures.names y
-    ∙ ap (λ xs. or_else (value_at xs y) (position_from (λ z. z == y) 0 (entry.class_names (top_levels c.as_slice.result.now)))) c.new-classes.ensures
-    ∙ ap (λ is. or_else (value_at [] y) (position_from (λ z. z == y) 0 (entry.class_names (top_levels is)))) c.as_slice.ensures)
+    ∙ ap (λ xs. option_or (value_at xs y) (position_from (λ z. z == y) 0 (entry.class_names (top_levels c.as_slice.result.now)))) c.new-classes.ensures
+    ∙ ap (λ is. option_or (value_at [] y) (position_from (λ z. z == y) 0 (entry.class_names (top_levels is)))) c.as_slice.ensures)
     (c.in_ok-count.ensures.count ∙ ap (λ is. 0 + length (entry.class_names (top_levels is))) c.as_slice.ensures)
     (λ y. c.in_ok-number_classes.ensures.names y
-    ∙ ap (λ is. or_else (value_at c.number_classes.new.classes.values.items y) (position_from (λ z. z == y) c.in_ok-count.count (entry.class_names (top_levels is)))) c.as_slice-2.ensures) in
+    ∙ ap (λ is. option_or (value_at c.number_classes.new.classes.values.items y) (position_from (λ z. z == y) c.in_ok-count.count (entry.class_names (top_levels is)))) c.as_slice-2.ensures) in
     let k0 : Known = record { entries = c.new.result; classes = c.new-2.result; kinds = c.new-3.result; library = 0 } in
     let k1 = c.add_items.new.known in
     let k2 : Known = record { entries = k1.entries; classes = k1.classes; kinds = k1.kinds; library = c.len.result } in

@@ -1,5 +1,5 @@
 use Rattle.std.proofs.Common.{◌≡◌, ◌∙◌, sym, ap, subst}
-use Rattle.sts_scope.specs.Lines.{IsPut}
+use Rattle.sts_scope.proofs.Puts.{IsPut}
 use Rattle.sts_scope.proofs.Longer.{put_none, put_one}
 use Rattle.sts_scope.proofs.lines.put_members.Goals as goal
 

@@ -1,4 +1,4 @@
-use Rattle.sts_scope.specs.Lines.{IsPut}
+use Rattle.sts_scope.proofs.Puts.{IsPut}
 use Rattle.sts_scope.proofs.lines.put_members.Given as goal
 
 abbrev pub invariant-loop-x : goal.invariant-loop-x
