@@ -15,7 +15,7 @@ const SERIAL: usize = 1;
 
 /// Sends bytes to the serial port, a word for each.
 pub fn send_bytes<D: Device>(plugs: &mut Plugs<D>, now: u32, bytes: &[u8])
-    ensures sends { (moves : List PortMove) (start : List (Option D)) → FollowsMoves D.account moves start plugs.old
+    ensures { (moves : List PortMove) (start : List (Option D)) → FollowsMoves D.account moves start plugs.old
         → FollowsMoves D.account (moves ++ bytes_sent now bytes.now) start plugs.new }
 {
     plugs.send_bytes(SERIAL, now, bytes);
@@ -36,7 +36,7 @@ fn send_each<D: Device>(plugs: &mut Plugs<D>, now: u32, machine: &Machine, at: u
 /// Sends bytes of flash to the serial port, from an address on: those of the image together, and those past it one by one.
 fn send_flash<D: Device>(plugs: &mut Plugs<D>, now: u32, machine: &Machine, at: u64, count: u32)
     requires small { at < 2 ^ 33 }
-    ensures sends { (moves : List PortMove) (start : List (Option D)) → FollowsMoves D.account moves start plugs.old
+    ensures { (moves : List PortMove) (start : List (Option D)) → FollowsMoves D.account moves start plugs.old
         → FollowsMoves D.account (moves ++ bytes_sent now (flash_bytes machine.now.memory.flash count at)) start plugs.new }
 {
     let bytes = image_bytes(machine, at, count);
@@ -53,7 +53,7 @@ fn send_flash<D: Device>(plugs: &mut Plugs<D>, now: u32, machine: &Machine, at: 
 /// Sends a word to a port.
 pub fn send_word<D: Device>(plugs: &mut Plugs<D>, port: usize, now: u32, word: u32)
     requires { port < 4 }
-    ensures sends { (moves : List PortMove) (start : List (Option D)) → FollowsMoves D.account moves start plugs.old
+    ensures { (moves : List PortMove) (start : List (Option D)) → FollowsMoves D.account moves start plugs.old
         → FollowsMoves D.account (moves ++ Word port now word ∷ []) start plugs.new }
 {
     let _ = plugs.send(port, now, word);
@@ -61,7 +61,7 @@ pub fn send_word<D: Device>(plugs: &mut Plugs<D>, port: usize, now: u32, word: u
 
 /// Sends the text at an address of flash to the serial port.
 pub fn send_text<D: Device>(plugs: &mut Plugs<D>, now: u32, machine: &Machine, address: u32)
-    ensures sends { (moves : List PortMove) (start : List (Option D)) → FollowsMoves D.account moves start plugs.old
+    ensures { (moves : List PortMove) (start : List (Option D)) → FollowsMoves D.account moves start plugs.old
         → FollowsMoves D.account (moves ++ bytes_sent now (text_at machine.now.memory.flash address)) start plugs.new }
 {
     let count = flash_number(machine, u64::from(address));

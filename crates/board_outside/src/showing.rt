@@ -58,7 +58,7 @@ fn put_output<K: Sink>(
 
 /// Sends the bytes of a number's decimal text.
 fn send_number<D: Device>(now: u32, number: i32, plugs: &mut Plugs<D>)
-    ensures sends { (moves : List PortMove) (start : List (Option D)) → FollowsMoves D.account moves start plugs.old
+    ensures { (moves : List PortMove) (start : List (Option D)) → FollowsMoves D.account moves start plugs.old
         → FollowsMoves D.account (moves ++ (bytes_sent now (decimal_text number) ++ [])) start plugs.new }
 {
     let mut buffer = Buffer::new();
@@ -67,7 +67,7 @@ fn send_number<D: Device>(now: u32, number: i32, plugs: &mut Plugs<D>)
 
 /// Sends a number's word by radio.
 fn send_radio<D: Device>(now: u32, number: i32, plugs: &mut Plugs<D>)
-    ensures sends { (moves : List PortMove) (start : List (Option D)) → FollowsMoves D.account moves start plugs.old
+    ensures { (moves : List PortMove) (start : List (Option D)) → FollowsMoves D.account moves start plugs.old
         → FollowsMoves D.account (moves ++ Word radio_port now (cast_unsigned w32 number) ∷ []) start plugs.new }
 {
     send_word(plugs, 3, now, number.cast_unsigned());
@@ -75,7 +75,7 @@ fn send_radio<D: Device>(now: u32, number: i32, plugs: &mut Plugs<D>)
 
 /// Sends the words of what was seen at a moment.
 fn send_output<D: Device>(output: Output, now: u32, machine: &Machine, plugs: &mut Plugs<D>)
-    ensures sends { (moves : List PortMove) (start : List (Option D)) → FollowsMoves D.account moves start plugs.old
+    ensures { (moves : List PortMove) (start : List (Option D)) → FollowsMoves D.account moves start plugs.old
         → FollowsMoves D.account (moves ++ port_moves (moves_of machine.now.memory.flash now output)) start plugs.new }
 {
     match output {

@@ -5,10 +5,10 @@ use Rattle.board_ports.specs.History.{FollowsMoves}
 use Rattle.board_outside.specs.Ports.{bytes_sent}
 use Rattle.board_outside.proofs.sending.send_text.Goals as goal
 
-pub returns-clause-sends : goal.returns-clause-sends
-returns-clause-sends g c = λ moves start f.
+pub returns : goal.returns
+returns g c = λ moves start f.
     let flash = c.args.machine.now.memory.flash in
     subst (λ ms. FollowsMoves g.D.Device.account ms start c.send_flash.new.plugs)
     (ap (λ n. moves ++ bytes_sent c.args.now (flash_bytes flash c.flash_number-count.result (n + 4))) c.from-2.ensures
     ∙ ap (λ n. moves ++ bytes_sent c.args.now (flash_bytes flash n (c.args.address + 4))) (c.flash_number-count.ensures ∙ ap (flash_word flash) c.from.ensures))
-    (c.send_flash.ensures.sends moves start f)
+    (c.send_flash.ensures moves start f)
