@@ -2,7 +2,8 @@
 
 `sts`: where memory is refused it ends with status 30 and has written nothing, or the line `big 1` alone. Where a file fails it writes `folder failed`, with status 20. Where standard
 output fails it ends with status 22: what was written begins the output, and standard error has the raw bytes of the whole lines at the serial port. Where standard error fails, which is the
-device at that port, the output stays, and no byte follows: each text is one write. Calls that are interrupted, or move one byte, change nothing.
+device at that port, the output stays, and no byte follows: what is written at once is the texts up to one that ends a line, or to the run's end. Calls that are interrupted, or move one byte,
+change nothing.
 
 By `class` standard error stays silent, and its lines at the serial port have no device.
 
@@ -44,6 +45,7 @@ FILES = {
     "toggles.ts": "basic.forever(function () { led.toggle(0, 0) })",
     "toggles.json": '{"end":50,"events":[]}',
     "handlers.ts": HANDLERS,
+    "lines.ts": 'serial.writeLine("ab")\nserial.writeNumber(1)\nserial.writeLine("cd")\nserial.writeString("e\\nf")',
     "hears.ts": "control.onEvent(50, 0, function () { serial.writeNumber(control.eventValue()) })",
     "hears.json": '{"end":1000,"events":[]}',
     "arrivals.json": '{"arrivals":[{"after":1,"do":"raise","source":50,"value":7}]}',
@@ -57,6 +59,7 @@ FILES = {
 TOGGLED = "0 display #..../...../...../...../.....\n20 display ...../...../...../...../.....\n40 display #..../...../...../...../.....\nend 50 script\n"
 HANDLED = "0 serial 313130\n5 serial 373231\nend 5 quiet\nstats spawned 1 blocked 1 words 25 seats 1\n"
 HEARD = "0 serial 37\nend 0 quiet\n"
+LINES = "0 serial 6162\n0 serial 0a\n0 serial 31\n0 serial 6364\n0 serial 0a\n0 serial 650a66\nend 0 quiet\n"
 TWO = "0 0 radio 5\n1 1 serial 35\n0 end 1 quiet\n1 end 1 quiet\n"
 EIGHT = "".join([*(f"{board} 0 radio 1\n" for board in range(8)), *(f"{board} 2 serial {'37' if board < 7 else '36'}\n" for board in range(8)), *(f"{board} end 2 quiet\n" for board in range(8))])
 BIG = "big 1\n10 serial 333531\nend 10 quiet\nstats spawned 6 blocked 0 words 450 seats 6\n"
@@ -73,6 +76,7 @@ def commands():
     return [
         ("run toggles.ts toggles.json", TOGGLED, [""]),
         ("run handlers.ts --stats", HANDLED, [""]),
+        ("run lines.ts", LINES, [""]),
         ("run-hex ends.hex", "end 0 quiet\n", [""]),
         ("run-at hears.ts hears.json arrivals.json", HEARD, [""]),
         ("class two.json", TWO, [""]),
@@ -155,6 +159,16 @@ def raw(out):
     return "".join(texts(out))
 
 
+def gathered(out):
+    """What is written to that port's device at once: the texts up to one that ends a line, and those that are left."""
+    pieces = [""]
+    for text in texts(out):
+        pieces[-1] += text
+        if text.endswith("\n"):
+            pieces.append("")
+    return [piece for piece in pieces if piece]
+
+
 def commands_fail(faults, sts):
     """Each fault of each command."""
     told = {}
@@ -175,7 +189,7 @@ def commands_fail(faults, sts):
             return status == 22 and whole[1].startswith(out) and out != whole[1] and err == (raw(out) if whole[2] else "") if number else (status, out, err) == whole
 
         def device_fails(number, *came):
-            return came == (0, whole[1], "".join(texts(whole[1])[: number - 1]) if number else whole[2])
+            return came == (0, whole[1], "".join(gathered(whole[1])[: number - 1]) if number else whole[2])
 
         memory = faults.memory(sts, words, lambda *came: came == whole, lambda status, out, err: status == 30 and out in before and not err)
         told[words] = [memory] + [faults.each(sts, words, call, way, is_right) for call, way, is_right in (

@@ -40,13 +40,14 @@ struct Taken {
     logged: bool,
 }
 
-/// Writes the words of each output to a device over such a stream, which settles behind each.
+/// Writes lists of words to a device over such a stream. Where it is to settle, it does so behind each list.
 fn put(
     alloc: Global,
     below: &mut Vec<u8>,
     room: usize,
     error: ErrorKind,
     outputs: &[&[u32]],
+    settles: bool,
 ) -> io::Result<Taken> {
     let narrow = Narrow {
         below,
@@ -66,7 +67,7 @@ fn put(
                 all.words = all.words.saturating_add(1);
             }
         }
-        if device.settle() {
+        if settles && device.settle() {
             all.settled = all.settled.saturating_add(1);
         }
     }
@@ -95,9 +96,10 @@ fn write_outputs(
     room: usize,
     error: ErrorKind,
     outputs: &[&[u32]],
+    settles: bool,
 ) -> io::Result<()> {
     let mut bytes = Vec::new(alloc);
-    let taken = put(alloc, &mut bytes, room, error, outputs)?;
+    let taken = put(alloc, &mut bytes, room, error, outputs, settles)?;
     write_taken(text, bytes.as_slice(), taken)?;
     Ok(())
 }
@@ -129,20 +131,28 @@ fn write_full(alloc: Global, text: &mut String) -> io::Result<()> {
 }
 
 /// An interrupted write is tried again; another error is a fault, and so is a write that takes nothing. What was held back then still is. The low byte
-/// of a word is written.
+/// of a word is written. A byte that ends a line is written at once, with those before it; others wait until the device settles.
 pub fn write_streams(alloc: Global, text: &mut String, asked: &str) -> io::Result<()> {
     match asked {
         "interrupted" => {
             let outputs: [&[u32]; 2] = [&[104, 361], &[33, 63]];
-            write_outputs(alloc, text, 3, ErrorKind::Interrupted, &outputs)
+            write_outputs(alloc, text, 3, ErrorKind::Interrupted, &outputs, true)
         }
         "broken" => {
             let outputs: [&[u32]; 2] = [&[104, 105, 106], &[107]];
-            write_outputs(alloc, text, 3, ErrorKind::BrokenPipe, &outputs)
+            write_outputs(alloc, text, 3, ErrorKind::BrokenPipe, &outputs, true)
         }
         "lines" => {
             let outputs: [&[u32]; 2] = [&[], &[104, 10, 105]];
-            write_outputs(alloc, text, 9, ErrorKind::Interrupted, &outputs)
+            write_outputs(alloc, text, 9, ErrorKind::Interrupted, &outputs, true)
+        }
+        "unsettled" => {
+            let outputs: [&[u32]; 2] = [&[104, 10, 105], &[106]];
+            write_outputs(alloc, text, 9, ErrorKind::Interrupted, &outputs, false)
+        }
+        "broken lines" => {
+            let outputs: [&[u32]; 2] = [&[104, 10], &[105, 266]];
+            write_outputs(alloc, text, 9, ErrorKind::BrokenPipe, &outputs, false)
         }
         "full" => write_full(alloc, text),
         _ => Err(refused("no such stream")),
