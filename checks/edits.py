@@ -19,7 +19,7 @@ import tempfile
 import threading
 
 TOP = os.path.dirname(os.path.dirname(os.path.abspath(__file__)))
-AT_ONCE = 8
+AT_ONCE = 16
 Edit = collections.namedtuple("Edit", "name pairs function cycle")
 printing = threading.Lock()
 
@@ -112,8 +112,8 @@ def restore(kept):
 
 
 def check(folder):
-    """Checks the copy. Gives whether it is proved (None where the prover wasn't reached), and each function's state by its name."""
-    ran = subprocess.run(["rt", "check"], cwd=folder, stdin=subprocess.DEVNULL, stdout=subprocess.PIPE, stderr=subprocess.STDOUT, errors="replace", text=True)
+    """Checks the copy, with one processor. Gives whether it is proved (None where the prover wasn't reached), and each function's state by its name."""
+    ran = subprocess.run(["rt", "check", "--jobs", "1"], cwd=folder, stdin=subprocess.DEVNULL, stdout=subprocess.PIPE, stderr=subprocess.STDOUT, errors="replace", text=True)
     verdict = re.search(r"^logic=(\S+)", ran.stdout, re.M)
     states = collections.defaultdict(set)
     for path, state in re.findall(r"^fn (\S+): (.*)$", ran.stdout, re.M):
@@ -136,10 +136,11 @@ def take(waiting):
     return batch
 
 
-def verdicts(folder, edits):
-    """Gives for each edit that isn't refused why."""
+def verdicts(name, folder, edits):
+    """Gives for each edit that isn't refused why. Tells how many are left, before each check."""
     waiting, wrong = list(edits), []
     while waiting:
+        say(f"{name}: {len(waiting)} of {len(edits)} left, {len(wrong)} not refused")
         batch = take(waiting)
         kept, why = apply(folder, batch)
         if why:
@@ -179,7 +180,7 @@ def tried(name, all_, lines):
             pairs = read(f"{folder}/edits/{file}")
             function = function_of(copy, pairs)
             edits.append(Edit(f"{name}/{file}", pairs, function, around.get(function)))
-        wrong = verdicts(copy, edits)
+        wrong = verdicts(name, copy, edits)
     say(f"{name}: {len(files) - len(wrong)} of {len(files)} refused")
     return len(files), wrong
 
