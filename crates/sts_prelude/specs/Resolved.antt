@@ -1,6 +1,7 @@
--- What names make of the library's tree: its functions beside the typed functions that stand first in each program, node by node. That the
--- types noted at the typed nodes are those of the rules isn't said here.
-use Rattle.std.specs.Prelude.{◌≡◌, ℕ, suc, false, Option, Some, None, List, [], ◌∷◌, length, slice_get}
+-- What names make of the library's tree: its functions beside the typed functions that stand first in each program,
+-- node by node. That the types noted at the typed nodes are those of the rules isn't said here.
+use Rattle.std.specs.Prelude.{◌≡◌, ℕ, suc, false, Option, Some, None, List, [], ◌∷◌, length, map, slice_get}
+use Rattle.std.specs.List.{AllZip}
 use Rattle.sts_syntax.specs.declared.board_calls.BoardCall.{BoardCall}
 use Rattle.sts_syntax.specs.declared.typed.Callee.TheVariants as c
 use Rattle.sts_syntax.specs.declared.typed.Spot.{Spot}
@@ -22,25 +23,18 @@ Annotates (Some a.Text) u = u ≡ t.Text
 Annotates (Some a.Nothing) u = u ≡ t.Nothing
 Annotates other u = ⊥
 
-abbrev pub Annotate : List Parameter → List ValueType → Type 0
-Annotate [] [] = Unit {0}
-Annotate (p ∷ ps) (u ∷ us) = Annotates p.shape u × Annotate ps us
-Annotate ps us = ⊥
-
-abbrev pub names_of : List Parameter → List ℕ
-names_of [] = []
-names_of (p ∷ ps) = p.name ∷ names_of ps
-
 -- These are the strings of the tables' names.
 module _ (strings : List (List ℕ)) where
   -- an entry has these bytes
   abbrev pub IsCalled : ℕ → List ℕ → Type 0
   IsCalled entry bytes = slice_get strings entry ≡ Some bytes
 
-  -- A callee is that of a call of the board: its space and its name, or the name alone of one that is the library's own.
+  -- A callee is that of a call of the board: its space and its name, or the name alone of one that is the library's
+  -- own.
   abbrev pub IsCallee : Tree → BoardCall → Type 0
   IsCallee (Name at name) call = ((row_of call).space ≡ []) × IsCalled name (row_of call).name
-  IsCallee (Member at (Name at' space) name) call = IsCalled space (row_of call).space × IsCalled name (row_of call).name
+  IsCallee (Member at (Name at' space) name) call =
+      IsCalled space (row_of call).space × IsCalled name (row_of call).name
   IsCallee callee call = ⊥
 
   -- These are the names of the function's parameters and locals.
@@ -74,7 +68,8 @@ module _ (strings : List (List ℕ)) where
     -- a declared name without a type
     abbrev pub BecomeDeclared : Declarations → List TypedDeclaration → Type 0
     BecomeDeclared ended [] = Unit {0}
-    BecomeDeclared (next (Declare at name None first) rest) (d ∷ ds) = Names name d.name × BecomesFirst first d.first × BecomeDeclared rest ds
+    BecomeDeclared (next (Declare at name None first) rest) (d ∷ ds) =
+        Names name d.name × BecomesFirst first d.first × BecomeDeclared rest ds
     BecomeDeclared each typed = ⊥
 
     abbrev mutual
@@ -92,11 +87,14 @@ module _ (strings : List (List ℕ)) where
       BecomeDone (also a rest) (e.also a' rest') = BecomesDone a a' × BecomeDone rest rest'
       BecomeDone all typed = ⊥
 
-  -- The function of a number and its typed one: it has `$` and the name of the call that calls this function of the library.
+  -- The function of a number and its typed one: it has `$` and the name of the call that calls this function of the
+  -- library.
   abbrev pub BecomesFunction : (number : ℕ) → TopLevel → TypedRoutine → Type 0
   BecomesFunction number (Function name (Does at params gives all false)) r =
       (call : BoardCall) × ((row_of call).action ≡ Library number) × IsCalled name (36 ∷ (row_of call).name)
-      × Annotate params r.params × Annotates gives r.gives × (locals : List ℕ) × (length locals ≡ length r.locals) × BecomeDone (names_of params) locals all r.all
+      × AllZip (λ (p : Parameter) u. Annotates p.shape u) params r.params × Annotates gives r.gives
+      × (locals : List ℕ) × (length locals ≡ length r.locals)
+      × BecomeDone (map (λ (p : Parameter). p.name) params) locals all r.all
   BecomesFunction number part r = ⊥
 
   abbrev pub BecomeFunctions : (number : ℕ) → Program → List TypedRoutine → Type 0

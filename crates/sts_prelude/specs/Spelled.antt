@@ -22,10 +22,13 @@ pub record IsLibraryTree (old new : Tables) (program : Program) : Type 0 where
 
 -- The tokens of the library's text, by whatever tables, spell the library.
 pub record TextSpellsLibrary : Type 0 where
-  pub spelled : (tables : Tables) (tokens : List Token) → IsDistinct tables.names → IsDistinct tables.texts → IsTokenization tables LIBRARY.now tokens
+  pub spelled : (tables : Tables) (tokens : List Token) → IsDistinct tables.names → IsDistinct tables.texts
+      → IsTokenization tables LIBRARY.now tokens
       → IsProgram (source tokens tables) (library tokens)
 
--- Names make the typed functions of the library, which stand first in each program, of that tree. Token 155 is the text of a line end.
+-- Names make the typed functions of the library, which stand first in each program, of that tree. Token 155 is the text
+-- of a line end.
 pub record TreeBecomesRoutines : Type 0 where
-  pub become : (tables : Tables) (tokens : List Token) → IsDistinct tables.names → IsDistinct tables.texts → IsTokenization tables LIBRARY.now tokens
+  pub become : (tables : Tables) (tokens : List Token) → IsDistinct tables.names → IsDistinct tables.texts
+      → IsTokenization tables LIBRARY.now tokens
       → BecomeFunctions tables.names 0 (library tokens) (library_routines (named_at tokens 155))

@@ -139,14 +139,8 @@ maker_takes names (Constructor r ∷ rest) = Some (routine_takes names r)
 maker_takes names (m ∷ rest) = maker_takes names rest
 
 abbrev pub class_head : Naming → ℕ → Option ℕ → ℕ → List ClassMember → ClassHead
-class_head names at base base_at members =
-    record {
-      at = at;
-      base_name = base;
-      base_at = base_at;
-      base = base_number names base;
-      takes = maker_takes names members;
-    }
+class_head names at x base_at members =
+    record { at = at; base_name = x; base_at = base_at; base = base_number names x; takes = maker_takes names members }
 
 abbrev pub item_heads : Naming → TopLevel → List ClassHead
 item_heads names (Class at x base base_at members) = class_head names at base base_at members ∷ []

@@ -96,15 +96,7 @@ hidden this = this
 -- in a handler that begins here, whose result is this
 abbrev pub in_handler : NameScope → Option StaticType → NameScope
 in_handler p gives =
-    record {
-      around = p.around
-          ++ p.locals;
-      locals = [];
-      block = 0;
-      this = hidden p.this;
-      gives = gives;
-      library = p.library;
-    }
+    record p { around = p.around ++ p.locals; locals = []; block = 0; this = hidden p.this; gives = gives }
 
 -- outside all functions, where a class's objects may be meant by `this`
 abbrev pub outside : This → Bool → Option StaticType → NameScope

@@ -42,7 +42,8 @@ module _ (tokens : List Token) where
   call i args = Call (place i) (name i) args
 
   abbrev pub member_call : ℕ → (argument : Tree) → Statement
-  member_call i argument = Plain (place i) (Call (place i) (Member (place i) (name i) (named_at (i + 2))) (more argument none))
+  member_call i argument =
+      Plain (place i) (Call (place i) (Member (place i) (name i) (named_at (i + 2))) (more argument none))
 
   -- `$show(x)` and `basic.pause(400)` from i on
   abbrev pub show : ℕ → Statement
@@ -71,7 +72,9 @@ module _ (tokens : List Token) where
 
   -- `while (g >= 0) { .. }` from i on
   abbrev pub glyph_loop : ℕ → Statement
-  glyph_loop i = While (place i) (Binary (place (i + 2)) 9 (name (i + 2)) (number (i + 4) (pos 0))) (Block (place (i + 6)) (turn (i + 7)))
+  glyph_loop i =
+      While (place i) (Binary (place (i + 2)) 9 (name (i + 2)) (number (i + 4) (pos 0)))
+      (Block (place (i + 6)) (turn (i + 7)))
 
   -- `let g = $glyph(x, 0)` from i on
   abbrev pub first_glyph : ℕ → Statement
@@ -79,7 +82,8 @@ module _ (tokens : List Token) where
 
   -- the statements of `$showNumber` and `$showString`, from i on
   abbrev pub show_glyphs : ℕ → Statements
-  show_glyphs i = also (declare i (number (i + 3) (pos 0))) (also (first_glyph (i + 4)) (also (glyph_loop (i + 13)) done))
+  show_glyphs i =
+      also (declare i (number (i + 3) (pos 0))) (also (first_glyph (i + 4)) (also (glyph_loop (i + 13)) done))
 
   -- of `$showLeds` and `$writeLine`
   abbrev pub show_leds : ℕ → Statements
@@ -97,7 +101,8 @@ module _ (tokens : List Token) where
 
   abbrev pub one_of_two : ℕ → (op : ℕ) → Statements
   one_of_two i op =
-      returned (place i) (Choice (place (i + 1)) (Binary (place (i + 1)) op (name (i + 1)) (name (i + 3))) (name (i + 5)) (name (i + 7)))
+      returned (place i)
+      (Choice (place (i + 1)) (Binary (place (i + 1)) op (name (i + 1)) (name (i + 3))) (name (i + 5)) (name (i + 7)))
 
   abbrev pub parameter : ℕ → Annotation → Parameter
   parameter i type = record { at = place i; name = named_at i; shape = Some type }
@@ -118,10 +123,12 @@ module _ (tokens : List Token) where
   abs i = function i (parameter (i + 3) a.Number ∷ []) a.Number (absolute (i + 10))
 
   abbrev pub least_or_greatest : ℕ → (op : ℕ) → TopLevel
-  least_or_greatest i op = function i (parameter (i + 3) a.Number ∷ parameter (i + 7) a.Number ∷ []) a.Number (one_of_two (i + 14) op)
+  least_or_greatest i op =
+      function i (parameter (i + 3) a.Number ∷ parameter (i + 7) a.Number ∷ []) a.Number (one_of_two (i + 14) op)
 
   -- the library
   abbrev pub library : Program
   library =
-      of_number 0 (show_leds 10) ∷ of_number 22 (show_glyphs 32) ∷ of_text 78 (show_glyphs 88) ∷ of_text 134 (write_line 144)
+      of_number 0 (show_leds 10) ∷ of_number 22 (show_glyphs 32) ∷ of_text 78 (show_glyphs 88)
+      ∷ of_text 134 (write_line 144)
       ∷ abs 158 ∷ least_or_greatest 179 6 ∷ least_or_greatest 202 7 ∷ []
