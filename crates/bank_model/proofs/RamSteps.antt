@@ -9,7 +9,7 @@ use Rattle.thumb_code.specs.Ram.{Ram, ram_memory, ram_store}
 use Rattle.thumb_code.specs.Step.{Fetched, Found, Missed, fetched, ran, stepped_at}
 use Rattle.thumb_code.specs.Machine.{State}
 use Rattle.thumb_code.specs.Run.{runs, from_step}
-use Rattle.thumb_code.specs.Refines.{over}
+use Rattle.thumb_code.proofs.Laws.{over}
 use Rattle.bank_model.specs.Steps.{ram_steps}
 
 -- Flash and the base are the same.

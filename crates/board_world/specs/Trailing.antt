@@ -2,7 +2,7 @@
 use Rattle.std.specs.Prelude.{◌≡◌, ℕ, ◌+◌, ◌≤◌, ℤ}
 use Rattle.board_world.specs.Limits.{arena_limit}
 use Rattle.board_world.specs.Kinds.{Kind, Turn, Goes, Asks, Takes, Spawns, Listens}
-use Rattle.board_world.specs.Simulation.{Ties, Path, Matches}
+use Rattle.board_world.specs.Simulation.{Simulates, Ties, Path, Matches}
 use Rattle.board_world.specs.Sound.{NoFault}
 
 module _ {C D : Type 0} (L : Kind C D) (weight : C → D → ℕ) (r : ℕ) where
@@ -43,10 +43,7 @@ module _ {A S C D : Type 0} (K : Kind A S) (L : Kind C D) (T : Ties A S C D) (we
     pub fits : room + r ≤ bound
     pub trails : Trails room used s t a b t
 
--- L does what K does in a step that isn't a fault, and may trail behind a turn by steps that weigh at most r
-pub record PartialTrailingSimulation {A S C D : Type 0} (K : Kind A S) (L : Kind C D) (T : Ties A S C D)
-    (weight : C → D → ℕ) (r : ℕ) (bound : A → S → ℕ) : Type 0 where
-  pub begins : (used : ℕ) (s : S) (t : D) (f g : ℕ) → T.Shared used s t → T.Code f g
-      → T.Active s t (K.begin f) (L.begin g)
-  pub follows : (used : ℕ) (s : S) (t : D) (a : A) (b : C) → T.Shared used s t → T.Active s t a b
-      → NoFault (K.step a s) → TrailsWithin K L T weight r (bound a s) used s t a b
+  -- L does what K does in a step that isn't a fault, and may trail behind a turn by steps that weigh at most r
+  abbrev pub PartialTrailingSimulation : (A → S → ℕ) → Type 0
+  PartialTrailingSimulation bound =
+      Simulates K L T (λ used s t a b. NoFault (K.step a s) → TrailsWithin (bound a s) used s t a b)

@@ -16,6 +16,7 @@ use Rattle.thumb_code.specs.Step.{Found, fetched, behind, is_in_flash}
 use Rattle.thumb_code.proofs.Spelled.{one_or_two, starts_long, starts_short, narrow_only, wide_only}
 pub use Rattle.thumb_code.proofs.Asking.{asks_only, step_asks_only}
 pub use Rattle.thumb_code.proofs.Refine.{refined}
+pub use Rattle.thumb_code.proofs.Refines.{over, Refines}
 pub use Rattle.thumb_code.proofs.Runs.{aligned_sp, runs_follow}
 
 -- the first halfword tells whether the instruction is two

@@ -1,5 +1,6 @@
 pub mod Laws
 mod Asking
+mod Refines
 mod Refine
 mod Runs
 mod Spelled

@@ -118,9 +118,7 @@ pushes next s vs =
 -- The words from SP on into the registers, and where p stands one more into PC; SP goes up behind the last.
 abbrev pub pops : ℕ → Registers → List ℕ → Bool → Effect
 pops next s ks p =
-    let n = length ks in
-    let all = if p then n + 1 else n in
-    let sp = word (s.sp + 4 * all) in
+    let n = length ks in let all = if p then n + 1 else n in let sp = word (s.sp + 4 * all) in
     record {
       sp = sp;
       loads = word_accesses s.sp all;

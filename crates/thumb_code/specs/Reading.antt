@@ -10,9 +10,13 @@ use Rattle.thumb_code.specs.Table.{Fits, half, not_eor}
 abbrev pub Reader : Type 0
 Reader = ℕ → Option Instr
 
+-- Nothing has these bits.
+abbrev pub none : Reader
+none n = None
+
 -- The reader with this number.
 abbrev pub choice : List Reader → ℕ → Reader
-choice rs k = slice_index_or rs k (λ _. None)
+choice rs k = slice_index_or rs k none
 
 -- Rd or Rt in bits 0 to 2, another register in bits 3 to 5, and imm5.
 abbrev pub imm5 : (ℕ → ℕ → ℕ → Instr) → Reader
@@ -72,10 +76,6 @@ load_store_register n =
 -- A number below m, read with a sign (SignExtend).
 abbrev pub extended : ℕ → ℕ → ℤ
 extended m x = if nat_lt x (m / 2) then pos x else (pos x -ℤ pos m)
-
--- Nothing has these bits.
-abbrev pub none : Reader
-none n = None
 
 -- SXTH, SXTB, UXTH and UXTB: bits 6 and 7 choose.
 abbrev pub extends : Reader

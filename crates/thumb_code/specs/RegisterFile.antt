@@ -53,6 +53,5 @@ values s ks = map (low s) ks
 
 -- R0 to R12 with words put into these registers.
 abbrev pub filled : List ℕ → List ℕ → List ℕ → List ℕ
-filled r [] ws = r
-filled r (k ∷ ks) [] = r
 filled r (k ∷ ks) (w ∷ ws) = filled (slice_set r k w) ks ws
+filled r _ _ = r
