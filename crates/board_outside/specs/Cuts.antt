@@ -8,7 +8,8 @@ use Rattle.board_ports.specs.Account.{Account}
 
 -- Where a sink told what it had taken, it has taken this whole text and a prefix of the next.
 pub record TookInto (old new : Option (List ℕ)) (whole next : List ℕ) : Type 0 where
-  pub told : (had : List ℕ) → old ≡ Some had → (part : List ℕ) × IsPrefix part next × (new ≡ Some (had ++ (whole ++ part)))
+  pub told : (had : List ℕ) → old ≡ Some had
+      → (part : List ℕ) × IsPrefix part next × (new ≡ Some (had ++ (whole ++ part)))
 
 -- The text that is due before these moves: the line of the observation that comes first, or what stands behind them all.
 abbrev pub text_due : List ℕ → List Move → List ℕ

@@ -38,4 +38,5 @@ port_moves (Unplugged port ∷ ms) = Unplug port ∷ port_moves ms
 
 -- What these moves leave of the devices.
 abbrev pub DevicesAfter : {B : Type 0} → (B → Account) → List Move → List (Option B) → List (Option B) → Type 0
-DevicesAfter account moves old new = PlacesAfter account (entries_at (port_moves moves)) (unplugged_at (port_moves moves)) old new
+DevicesAfter account moves old new =
+    PlacesAfter account (entries_at (port_moves moves)) (unplugged_at (port_moves moves)) old new

@@ -102,7 +102,8 @@ fn then_put_each_hex<K: Sink>(
     requires small { at < 2 ^ 34 }
     ensures { (taken : Option (List ℕ)) (faults : ℕ) (text : List ℕ)
         → Puts taken (K.taken out.old) faults (K.faults out.old) text before
-        → Puts taken (K.taken out.new) faults (K.faults out.new) (text ++ hex_text (flash_bytes machine.now.memory.flash count at)) result }
+        → Puts taken (K.taken out.new) faults (K.faults out.new)
+        (text ++ hex_text (flash_bytes machine.now.memory.flash count at)) result }
 {
     let mut put = before;
     for i in 0..count {
@@ -122,7 +123,8 @@ fn then_put_flash_hex<K: Sink>(
     requires small { at < 2 ^ 33 }
     ensures { (taken : Option (List ℕ)) (faults : ℕ) (text : List ℕ)
         → Puts taken (K.taken out.old) faults (K.faults out.old) text before
-        → Puts taken (K.taken out.new) faults (K.faults out.new) (text ++ hex_text (flash_bytes machine.now.memory.flash count at)) result }
+        → Puts taken (K.taken out.new) faults (K.faults out.new)
+        (text ++ hex_text (flash_bytes machine.now.memory.flash count at)) result }
 {
     let bytes = image_bytes(machine, at, count);
     let put = then_put_hex(before, out, bytes);
@@ -145,7 +147,8 @@ pub fn then_put_text<K: Sink>(
 ) -> Result<(), PutFailed>
     ensures { (taken : Option (List ℕ)) (faults : ℕ) (text : List ℕ)
         → Puts taken (K.taken out.old) faults (K.faults out.old) text before
-        → Puts taken (K.taken out.new) faults (K.faults out.new) (text ++ line (Serial at (text_at machine.now.memory.flash address))) result }
+        → Puts taken (K.taken out.new) faults (K.faults out.new)
+        (text ++ line (Serial at (text_at machine.now.memory.flash address))) result }
 {
     let count = flash_number(machine, u64::from(address));
     let put = then_put_decimal(before, out, at);
@@ -317,7 +320,8 @@ pub fn then_put_panic<K: Sink>(
 ) -> Result<(), PutFailed>
     ensures { (taken : Option (List ℕ)) (faults : ℕ) (text : List ℕ)
         → Puts taken (K.taken out.old) faults (K.faults out.old) text before
-        → Puts taken (K.taken out.new) faults (K.faults out.new) (text ++ closing_line at (Some (Panicked code))) result }
+        → Puts taken (K.taken out.new) faults (K.faults out.new)
+        (text ++ closing_line at (Some (Panicked code))) result }
 {
     let put = then_put(before, out, b"panic ");
     let put = then_put_decimal(put, out, at);
@@ -336,7 +340,8 @@ pub fn then_put_fault<K: Sink>(
 ) -> Result<(), PutFailed>
     ensures { (taken : Option (List ℕ)) (faults : ℕ) (text : List ℕ)
         → Puts taken (K.taken out.old) faults (K.faults out.old) text before
-        → Puts taken (K.taken out.new) faults (K.faults out.new) (text ++ closing_line at (Some (Faulted (number_of fault) address))) result }
+        → Puts taken (K.taken out.new) faults (K.faults out.new)
+        (text ++ closing_line at (Some (Faulted (number_of fault) address))) result }
 {
     let put = then_put(before, out, b"fault ");
     let put = then_put_decimal(put, out, at);

@@ -25,7 +25,8 @@ pub fn send_bytes<D: Device>(plugs: &mut Plugs<D>, now: u32, bytes: &[u8])
 fn send_each<D: Device>(plugs: &mut Plugs<D>, now: u32, machine: &Machine, at: u64, count: u32)
     requires small { at < 2 ^ 34 }
     ensures { (moves : List PortMove) (start : List (Option D)) → FollowsMoves D.account moves start plugs.old
-        → FollowsMoves D.account (moves ++ bytes_sent now (flash_bytes machine.now.memory.flash count at)) start plugs.new }
+        → FollowsMoves D.account
+        (moves ++ bytes_sent now (flash_bytes machine.now.memory.flash count at)) start plugs.new }
 {
     for i in 0..count {
         let byte = flash_byte(machine, at + u64::from(i));
@@ -37,7 +38,8 @@ fn send_each<D: Device>(plugs: &mut Plugs<D>, now: u32, machine: &Machine, at: u
 fn send_flash<D: Device>(plugs: &mut Plugs<D>, now: u32, machine: &Machine, at: u64, count: u32)
     requires small { at < 2 ^ 33 }
     ensures { (moves : List PortMove) (start : List (Option D)) → FollowsMoves D.account moves start plugs.old
-        → FollowsMoves D.account (moves ++ bytes_sent now (flash_bytes machine.now.memory.flash count at)) start plugs.new }
+        → FollowsMoves D.account
+        (moves ++ bytes_sent now (flash_bytes machine.now.memory.flash count at)) start plugs.new }
 {
     let bytes = image_bytes(machine, at, count);
     plugs.send_bytes(SERIAL, now, bytes);

@@ -22,7 +22,8 @@ use tool_io::{PutFailed, Sink};
 
 /// Puts the line of a number's decimal text.
 fn put_number<K: Sink>(now: u32, number: i32, out: &mut K) -> Result<(), PutFailed>
-    ensures { Puts (K.taken out.old) (K.taken out.new) (K.faults out.old) (K.faults out.new) (lines (Serial now (decimal_text number) ∷ [])) result }
+    ensures { Puts (K.taken out.old) (K.taken out.new) (K.faults out.old) (K.faults out.new)
+        (lines (Serial now (decimal_text number) ∷ [])) result }
 {
     let mut buffer = Buffer::new();
     then_put_serial(Ok(()), out, now, buffer.format(number).as_bytes())
@@ -30,7 +31,8 @@ fn put_number<K: Sink>(now: u32, number: i32, out: &mut K) -> Result<(), PutFail
 
 /// Puts the line of a number that was sent by radio.
 fn put_radio<K: Sink>(now: u32, number: i32, out: &mut K) -> Result<(), PutFailed>
-    ensures { Puts (K.taken out.old) (K.taken out.new) (K.faults out.old) (K.faults out.new) (lines (Radio now number ∷ [])) result }
+    ensures { Puts (K.taken out.old) (K.taken out.new) (K.faults out.old) (K.faults out.new)
+        (lines (Radio now number ∷ [])) result }
 {
     then_put_radio(Ok(()), out, now, number)
 }
@@ -99,7 +101,8 @@ pub fn show<K: Sink, D: Device>(
 ) -> Result<(), PutFailed>
     ensures puts { Puts (K.taken out.old) (K.taken out.new) (K.faults out.old) (K.faults out.new)
         (lines (seen_of (moves_of machine.now.memory.flash now output))) result }
-    ensures sends { OnOk result ((moves : List PortMove) (start : List (Option D)) → FollowsMoves D.account moves start plugs.old
+    ensures sends { OnOk result
+        ((moves : List PortMove) (start : List (Option D)) → FollowsMoves D.account moves start plugs.old
         → FollowsMoves D.account (moves ++ port_moves (moves_of machine.now.memory.flash now output)) start plugs.new) }
     ensures stays { OnErr result (plugs.new ≡ plugs.old) }
     ensures seen { OnErr result (IsSeen machine.now.memory.flash now output) }

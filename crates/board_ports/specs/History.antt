@@ -44,7 +44,8 @@ PlaceAfter account entries unplugged (Some old) (Some new) = (unplugged ≡ fals
 
 -- What a run leaves in the list of places, by its entries and its unplugs at each port. The ports are below 4; places
 -- above them stay, and so does the list's length.
-pub record PlacesAfter {B : Type 0} (account : B → Account) (entries : ℕ → List (ℕ × ℕ)) (unplugged : ℕ → Bool) (old new : List (Option B)) : Type 0 where
+pub record PlacesAfter {B : Type 0} (account : B → Account) (entries : ℕ → List (ℕ × ℕ)) (unplugged : ℕ → Bool)
+    (old new : List (Option B)) : Type 0 where
   pub same_length : length new ≡ length old
   pub above : (k : ℕ) → 4 ≤ k → device_at new k ≡ device_at old k
   pub ports : (k : ℕ) → k < 4 → PlaceAfter account (entries k) (unplugged k) (device_at old k) (device_at new k)
@@ -58,10 +59,13 @@ Taking account entries true old new = FailedAmong account entries old new
 abbrev pub PlaceFollows : {B : Type 0} → (B → Account) → List (ℕ × ℕ) → Bool → Bool → Option B → Option B → Type 0
 PlaceFollows account entries unplugged mark None new = new ≡ None
 PlaceFollows account entries unplugged mark (Some old) None = unplugged ≡ true
-PlaceFollows account entries unplugged mark (Some old) (Some new) = (unplugged ≡ false) × Taking account entries mark old new
+PlaceFollows account entries unplugged mark (Some old) (Some new) =
+    (unplugged ≡ false) × Taking account entries mark old new
 
 -- What is plugged in now follows by these moves from the places at the start.
-pub record FollowsMoves {B : Type 0} (account : B → Account) (moves : List PortMove) (start : List (Option B)) (now : Plugged B) : Type 0 where
+pub record FollowsMoves {B : Type 0} (account : B → Account) (moves : List PortMove) (start : List (Option B))
+    (now : Plugged B) : Type 0 where
   pub same_length : length now.places ≡ length start
   pub above : (k : ℕ) → 4 ≤ k → device_at now.places k ≡ device_at start k
-  pub ports : (k : ℕ) → k < 4 → PlaceFollows account (entries_at moves k) (unplugged_at moves k) (mark_at now.marks k) (device_at start k) (device_at now.places k)
+  pub ports : (k : ℕ) → k < 4 → PlaceFollows account (entries_at moves k) (unplugged_at moves k) (mark_at now.marks k)
+      (device_at start k) (device_at now.places k)

@@ -16,7 +16,8 @@ pub record Plugged (B : Type 0) : Type 0 where
 -- it is stored as the pair of its fields
 abbrev pub plugged_code : {B : Type 0} → Coded B → Coded (Plugged B)
 plugged_code {B} code =
-    code_by (List (Option B) × List Bool) (coded× (coded_list (coded_option code)) (coded_list coded_bool)) (λ p. (p.places, p.marks))
+    code_by (List (Option B) × List Bool) (coded× (coded_list (coded_option code)) (coded_list coded_bool))
+    (λ p. (p.places, p.marks))
     (λ p. record { places = p.0; marks = p.1 }) (λ _. refl)
 
 -- the device at a place, if there is one
@@ -39,13 +40,15 @@ pub record OthersStay {B : Type 0} (port : ℕ) (old new : Plugged B) : Type 0 w
 abbrev pub Sends : {B : Type 0} → (B → Account) → ℕ × ℕ → Option B → Bool → Option B → Bool → Sent → Type 0
 Sends account entry old mark new mark' Nobody = ((old ≡ None) ⊎ (mark ≡ true)) × (new ≡ old) × (mark' ≡ mark)
 Sends account entry (Some old) false (Some new) mark' Went = (mark' ≡ false) × Received account (entry ∷ []) old new
-Sends account entry (Some old) false (Some new) mark' Lost = (mark' ≡ true) × Failed account old new × ((account new).writes ≡ one_more (account old).writes)
+Sends account entry (Some old) false (Some new) mark' Lost =
+    (mark' ≡ true) × Failed account old new × ((account new).writes ≡ one_more (account old).writes)
 Sends account entry old mark new mark' _ = ⊥
 
 -- the same of all that is plugged in, before and after
 abbrev pub SendsAt : {B : Type 0} → (B → Account) → ℕ × ℕ → ℕ → Plugged B → Plugged B → Sent → Type 0
 SendsAt account entry port old new sent =
-    Sends account entry (device_at old.places port) (mark_at old.marks port) (device_at new.places port) (mark_at new.marks port) sent
+    Sends account entry (device_at old.places port) (mark_at old.marks port) (device_at new.places port)
+    (mark_at new.marks port) sent
 
 -- What becomes of a place whose device is sent these entries, one behind the other. A place without a device and one with a mark stay as they
 -- are. The device took them all, and was written to so often; or it took the first of them, failed, was written to at most so often, and is marked.
@@ -53,13 +56,15 @@ abbrev pub SendsAll : {B : Type 0} → (B → Account) → List (ℕ × ℕ) →
 SendsAll account entries None mark new mark' = (new ≡ None) × (mark' ≡ mark)
 SendsAll account entries (Some old) true new mark' = (new ≡ Some old) × (mark' ≡ true)
 SendsAll account entries (Some old) false (Some new) false = Received account entries old new
-SendsAll account entries (Some old) false (Some new) true = FailedAmong account entries old new × ((account new).writes ≤ some_more (length entries) (account old).writes)
+SendsAll account entries (Some old) false (Some new) true =
+    FailedAmong account entries old new × ((account new).writes ≤ some_more (length entries) (account old).writes)
 SendsAll account entries (Some old) false None mark' = ⊥
 
 -- the same of all that is plugged in, before and after
 abbrev pub SendsAllAt : {B : Type 0} → (B → Account) → List (ℕ × ℕ) → ℕ → Plugged B → Plugged B → Type 0
 SendsAllAt account entries port old new =
-    SendsAll account entries (device_at old.places port) (mark_at old.marks port) (device_at new.places port) (mark_at new.marks port)
+    SendsAll account entries (device_at old.places port) (mark_at old.marks port) (device_at new.places port)
+    (mark_at new.marks port)
 
 -- What becomes of a place whose device hears that no more words come. A place without a device and one with a mark stay as they are.
 -- The device holds none back any more and had no fault, or it failed and is marked. It wasn't written to.
@@ -81,7 +86,8 @@ SettlesAt settled account port old new =
 
 -- What becomes of the list of places where no more words come: the place of each port settles. The ports are below 4; places above them stay,
 -- and so does the list's length.
-pub record SettlesAll {B : Type 0} (settled : B → Type 0) (account : B → Account) (old : Plugged B) (new : List (Option B)) : Type 0 where
+pub record SettlesAll {B : Type 0} (settled : B → Type 0) (account : B → Account) (old : Plugged B)
+    (new : List (Option B)) : Type 0 where
   pub same_length : length new ≡ length old.places
   pub above : (k : ℕ) → 4 ≤ k → device_at new k ≡ device_at old.places k
   pub ports : (k : ℕ) → k < 4

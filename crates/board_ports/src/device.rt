@@ -37,11 +37,13 @@ pub trait Device: Drop {
     /// then the pairs of the first of them were appended.
     fn write_bytes(&mut self, now: u32, bytes: &[u8]) -> bool
         ensures logged { OnTrue result (Logs (account self.old).log (account self.new).log (at_moment now bytes.now)) }
-        ensures first { OnFalse result (LogsFirst (account self.old).log (account self.new).log (at_moment now bytes.now)) }
+        ensures first { OnFalse result
+            (LogsFirst (account self.old).log (account self.new).log (at_moment now bytes.now)) }
         ensures kept { OnTrue result ((account self.new).faults ≡ (account self.old).faults) }
         ensures later { (account self.old).faults ≤ (account self.new).faults }
         ensures failed { OnFalse result (Rose (account self.old).faults (account self.new).faults) }
-        ensures once { OnTrue result ((account self.new).writes ≡ some_more (length bytes.now) (account self.old).writes) }
+        ensures once { OnTrue result
+            ((account self.new).writes ≡ some_more (length bytes.now) (account self.old).writes) }
         ensures at_most { (account self.new).writes ≤ some_more (length bytes.now) (account self.old).writes }
     {
         for byte in bytes {

@@ -75,9 +75,11 @@ impl<W: Write + Drop> Device for EchoDevice<W> {
     fn write(&mut self, _now: u32, word: u32) -> bool
         ensures later { self.old.faults ≤ self.new.faults }
         ensures failed { OnFalse result (Rose self.old.faults self.new.faults) }
-        ensures written { OnTrue result (Appends (append_known (W.contents self.old.stream.writer) self.old.stream.held.items)
+        ensures written { OnTrue result
+            (Appends (append_known (W.contents self.old.stream.writer) self.old.stream.held.items)
             (append_known (W.contents self.new.stream.writer) self.new.stream.held.items) ((word % 256) ∷ [])) }
-        ensures front { OnFalse result (AppendsFront (append_known (W.contents self.old.stream.writer) self.old.stream.held.items)
+        ensures front { OnFalse result
+            (AppendsFront (append_known (W.contents self.old.stream.writer) self.old.stream.held.items)
             (append_known (W.contents self.new.stream.writer) self.new.stream.held.items) ((word % 256) ∷ [])) }
         ensures line { OnTrue result (word % 256 ≡ 10 → self.new.stream.held.items ≡ []) }
         ensures uncounted { OnTrue result (self.new.faults ≡ self.old.faults) }
@@ -92,9 +94,11 @@ impl<W: Write + Drop> Device for EchoDevice<W> {
     fn write_bytes(&mut self, _now: u32, bytes: &[u8]) -> bool
         ensures later { self.old.faults ≤ self.new.faults }
         ensures failed { OnFalse result (Rose self.old.faults self.new.faults) }
-        ensures written { OnTrue result (Appends (append_known (W.contents self.old.stream.writer) self.old.stream.held.items)
+        ensures written { OnTrue result
+            (Appends (append_known (W.contents self.old.stream.writer) self.old.stream.held.items)
             (append_known (W.contents self.new.stream.writer) self.new.stream.held.items) bytes.now) }
-        ensures front { OnFalse result (AppendsFront (append_known (W.contents self.old.stream.writer) self.old.stream.held.items)
+        ensures front { OnFalse result
+            (AppendsFront (append_known (W.contents self.old.stream.writer) self.old.stream.held.items)
             (append_known (W.contents self.new.stream.writer) self.new.stream.held.items) bytes.now) }
         ensures line { OnTrue result (EndsLine bytes.now → self.new.stream.held.items ≡ []) }
         ensures uncounted { OnTrue result (self.new.faults ≡ self.old.faults) }

@@ -131,8 +131,10 @@ pub fn tell<K: Sink, D: Device>(
 ) -> Result<(), PutFailed>
     requires size { length engine.old.runtime.machine.memory.flash ≤ flash_end }
     requires bytes { All (λ b. b < 256) engine.old.runtime.machine.memory.flash }
-    ensures puts { PutsTo K.taken K.faults out.old out.new (lines (seen_of (moves_of engine.old.runtime.machine.memory.flash now output))) result }
-    ensures sends { OnOk result (PortsMeet D.account (moves_of engine.old.runtime.machine.memory.flash now output) plugs.old plugs.new) }
+    ensures puts { PutsTo K.taken K.faults out.old out.new
+        (lines (seen_of (moves_of engine.old.runtime.machine.memory.flash now output))) result }
+    ensures sends { OnOk result
+        (PortsMeet D.account (moves_of engine.old.runtime.machine.memory.flash now output) plugs.old plugs.new) }
     ensures stays { OnErr result (plugs.new ≡ plugs.old) }
     ensures seen { OnErr result (IsSeen engine.old.runtime.machine.memory.flash now output) }
     ensures same { engine.new ≡ engine.old }
@@ -155,7 +157,8 @@ impl<D: Device> Board<D> {
         requires size { vec_len image ≤ flash_end }
         requires script { IsSound script }
         ensures mounted { IfOk result (λ board. IsMounted image.items script board.engine) }
-        ensures plugged { IfOk result (λ board. (board.plugs.places ≡ places.items) × FollowsMoves D.account [] places.items board.plugs) }
+        ensures plugged { IfOk result
+            (λ board. (board.plugs.places ≡ places.items) × FollowsMoves D.account [] places.items board.plugs) }
         ensures counted { IfOk result (λ board. board.instructions ≡ 0) }
         ensures switched { IfOk result (λ board. board.engine.switch ≡ 0) }
         ensures none { IfOk result (λ board. (board.kept ≡ []) × (board.sent ≡ [])) }
@@ -181,11 +184,13 @@ impl<D: Device> Board<D> {
         requires settled { IsSettled self.old.engine }
         requires going { self.old.engine.end ≡ None }
         requires early { self.old.instructions < 2 ^ 50 }
-        ensures goes { OnOk result (Advances D.account of_run 1 (over_sink K.taken K.faults self.old out.old) (over_sink K.taken K.faults self.new out.new)) }
+        ensures goes { OnOk result (Advances D.account of_run 1 (over_sink K.taken K.faults self.old out.old)
+            (over_sink K.taken K.faults self.new out.new)) }
         ensures whole { OnOk result (IsWhole self.new.engine self.new.instructions) }
         ensures settled { OnOk result (IsSettled self.new.engine) }
         ensures counted { self.new.instructions ≡ self.old.instructions + 1 }
-        ensures cut { OnErr result (Fails D.account of_run 1 (over_sink K.taken K.faults self.old out.old) (over_sink K.taken K.faults self.new out.new)) }
+        ensures cut { OnErr result (Fails D.account of_run 1 (over_sink K.taken K.faults self.old out.old)
+            (over_sink K.taken K.faults self.new out.new)) }
         ensures later { K.faults out.old ≤ K.faults out.new }
         ensures failed { OnErr result (Rose (K.faults out.old) (K.faults out.new)) }
     {
@@ -206,10 +211,12 @@ impl<D: Device> Board<D> {
         requires whole { IsWhole self.old.engine self.old.instructions }
         requires settled { IsSettled self.old.engine }
         requires early { self.old.instructions < 2 ^ 49 }
-        ensures goes { OnOk result ((count : ℕ) × HasExecuted D.account count most (over_sink K.taken K.faults self.old out.old) (over_sink K.taken K.faults self.new out.new)) }
+        ensures goes { OnOk result ((count : ℕ) × HasExecuted D.account count most
+            (over_sink K.taken K.faults self.old out.old) (over_sink K.taken K.faults self.new out.new)) }
         ensures settled { OnOk result (IsSettled self.new.engine) }
         ensures whole { OnOk result (IsWhole self.new.engine self.new.instructions) }
-        ensures cut { OnErr result (Fails D.account of_run most (over_sink K.taken K.faults self.old out.old) (over_sink K.taken K.faults self.new out.new)) }
+        ensures cut { OnErr result (Fails D.account of_run most (over_sink K.taken K.faults self.old out.old)
+            (over_sink K.taken K.faults self.new out.new)) }
         ensures few { self.new.instructions ≤ self.old.instructions + most }
         ensures later { K.faults out.old ≤ K.faults out.new }
         ensures failed { OnErr result (Rose (K.faults out.old) (K.faults out.new)) }
@@ -225,7 +232,8 @@ impl<D: Device> Board<D> {
 
     /// Puts the closing line, and says how the run ended.
     pub(crate) fn finish<K: Sink>(&self, out: &mut K) -> End
-        ensures { Finishes (over_sink K.taken K.faults self.now out.old) (over_sink K.taken K.faults self.now out.new) result }
+        ensures { Finishes (over_sink K.taken K.faults self.now out.old)
+            (over_sink K.taken K.faults self.now out.new) result }
     {
         match put_closing(out, self.engine.clock, self.engine.end) {
             Ok(()) => told(self.engine.end),
@@ -244,8 +252,10 @@ impl<D: Device> Board<D> {
         requires counted { self.old.instructions ≡ 0 }
         requires least { 1 ≤ budget }
         requires most { budget ≤ 2147483648 }
-        ensures ran { (image : List ℕ) (script : EventScript) (places : List (Option D)) → IsMounted image script self.old.engine → FollowsMoves D.account [] places self.old.plugs
-            → Ran D.account image (world_after image script) budget (outside_of K.taken K.faults out.old places) (over_sink K.taken K.faults self.new out.new) result }
+        ensures ran { (image : List ℕ) (script : EventScript) (places : List (Option D))
+            → IsMounted image script self.old.engine → FollowsMoves D.account [] places self.old.plugs
+            → Ran D.account image (world_after image script) budget (outside_of K.taken K.faults out.old places)
+            (over_sink K.taken K.faults self.new out.new) result }
         ensures counted { self.new.instructions ≤ budget }
         ensures later { K.faults out.old ≤ K.faults out.new }
     {

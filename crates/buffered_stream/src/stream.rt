@@ -72,7 +72,8 @@ impl<W: Write + Drop> BufferedStream<W> {
             (append_known (W.contents self.new.writer) self.new.held.items) piece.now) }
         ensures front { OnErr result (AppendsFront (append_known (W.contents self.old.writer) self.old.held.items)
             (append_known (W.contents self.new.writer) self.new.held.items) piece.now) }
-        ensures nothing { OnErr result (length piece.now ≤ ROOM → Keeps (append_known (W.contents self.old.writer) self.old.held.items)
+        ensures nothing { OnErr result
+            (length piece.now ≤ ROOM → Keeps (append_known (W.contents self.old.writer) self.old.held.items)
             (append_known (W.contents self.new.writer) self.new.held.items)) }
         ensures held { OnOk result (IsSuffix self.new.held.items (self.old.held.items ++ piece.now)) }
         ensures retried { IfErr result (λ error. error_kind error ≢ ErrorKind.Interrupted) }

@@ -44,10 +44,12 @@ pub fn run_image_at<K: Sink, D: Device>(
     requires least { 1 ≤ budget }
     requires most { budget ≤ 2147483648 }
     ensures ran { IfOk result (λ end. RunsImageAt D.account image.items script (world_arrivals arrivals.now) budget
-        (outside_of K.taken K.faults out.old places.old.items) (outside_of K.taken K.faults out.new places.new.items) end) }
+        (outside_of K.taken K.faults out.old places.old.items)
+        (outside_of K.taken K.faults out.new places.new.items) end) }
     ensures source { (P : TypedProgram) (texts : List ByteList) → ImageImplements P texts image.items
         → IfOk result (λ end. RunsSourceAt D.account P texts image.items script (world_arrivals arrivals.now) budget
-        (outside_of K.taken K.faults out.old places.old.items) (outside_of K.taken K.faults out.new places.new.items) end) }
+        (outside_of K.taken K.faults out.old places.old.items)
+        (outside_of K.taken K.faults out.new places.new.items) end) }
     ensures nothing { OnErr result (Took (K.taken out.old) (K.taken out.new) []) }
     ensures unchanged { OnErr result (places.new.items ≡ places.old.items) }
     ensures later { K.faults out.old ≤ K.faults out.new }

@@ -19,10 +19,15 @@ ghost use Rattle.message_bus.specs.Agreement.{Agrees, hearings, handler_activity
 /// the events that the listeners hold behind it are the world's. So `Bus::begins` is true exactly where the world has a
 /// new activity.
 pub fn hearing_is_the_worlds<A, S>()
-    ensures begun { (make : ℕ → A) (e : Event) (b : BusState) (w : World A S) → Agrees b w → handlers make e w 0 w.listeners ≡ begun make e 0 b.listeners }
-    ensures by_number { (make : ℕ → A) (e : Event) (b : BusState) (w : World A S) → Agrees b w → handlers make e w 0 w.listeners ≡ map (λ i. handler_activity (make (handler_of i (hearings b.listeners))) e i) (beginning e 0 b.listeners) }
-    ensures begins { (make : ℕ → A) (e : Event) (b : BusState) (w : World A S) → Agrees b w → none (handlers make e w 0 w.listeners) ≡ not (list_any (begins_new e) b.listeners) }
-    ensures held { (e : Event) (b : BusState) (w : World A S) → Agrees b w → holding e w 0 w.listeners ≡ hearings (map (heard e) b.listeners) }
+    ensures begun { (make : ℕ → A) (e : Event) (b : BusState) (w : World A S) → Agrees b w
+        → handlers make e w 0 w.listeners ≡ begun make e 0 b.listeners }
+    ensures by_number { (make : ℕ → A) (e : Event) (b : BusState) (w : World A S) → Agrees b w
+        → handlers make e w 0 w.listeners
+        ≡ map (λ i. handler_activity (make (handler_of i (hearings b.listeners))) e i) (beginning e 0 b.listeners) }
+    ensures begins { (make : ℕ → A) (e : Event) (b : BusState) (w : World A S) → Agrees b w
+        → none (handlers make e w 0 w.listeners) ≡ not (list_any (begins_new e) b.listeners) }
+    ensures held { (e : Event) (b : BusState) (w : World A S) → Agrees b w
+        → holding e w 0 w.listeners ≡ hearings (map (heard e) b.listeners) }
 {}
 
 /// The set of bits that `Bus::dispatch` gives has the numbers of the listeners that begin. They ascend, and each is that

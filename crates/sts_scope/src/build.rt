@@ -19,7 +19,9 @@ use sts_syntax::{Binding, Body, Item, Param, Shape};
 /// Numbers a class, unless its name has a number already.
 fn number_class(classes: &mut ByNumber, count: u32, item: &Item) -> Result<u32, NoMemory>
     requires { count + length (entry.item_class (top_level item.now)) < 2 ^ 32 }
-    ensures names { OnOk result ((y : ℕ) → value_at classes.new.values.items y ≡ option_or (value_at classes.old.values.items y) (position_from (λ z. z == y) count (entry.item_class (top_level item.now)))) }
+    ensures names { OnOk result
+        ((y : ℕ) → value_at classes.new.values.items y ≡ option_or (value_at classes.old.values.items y)
+        (position_from (λ z. z == y) count (entry.item_class (top_level item.now)))) }
     ensures count { IfOk result (λ n. n ≡ count + length (entry.item_class (top_level item.now))) }
 {
     match item {
@@ -43,7 +45,9 @@ fn number_class(classes: &mut ByNumber, count: u32, item: &Item) -> Result<u32, 
 /// Numbers the classes of some parts of a text, behind those that have numbers.
 pub fn number_classes(classes: &mut ByNumber, first: u32, items: &[Item]) -> Result<u32, NoMemory>
     requires { first + length (entry.class_names (top_levels items.now)) < 2 ^ 32 }
-    ensures names { OnOk result ((y : ℕ) → value_at classes.new.values.items y ≡ option_or (value_at classes.old.values.items y) (position_from (λ z. z == y) first (entry.class_names (top_levels items.now)))) }
+    ensures names { OnOk result
+        ((y : ℕ) → value_at classes.new.values.items y ≡ option_or (value_at classes.old.values.items y)
+        (position_from (λ z. z == y) first (entry.class_names (top_levels items.now)))) }
     ensures count { IfOk result (λ n. n ≡ first + length (entry.class_names (top_levels items.now))) }
 {
     let mut count = first;

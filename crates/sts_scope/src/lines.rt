@@ -39,7 +39,8 @@ pub fn put_members(
     own: &BTreeMap<u32, usize>,
     base: &PersistentMap,
 ) -> Result<PersistentMap, NoMemory>
-    ensures { IfOk result (λ made. (x : ℕ) → value_in made x ≡ option_or (get nat_cmp own.now x) (value_in base.now x)) }
+    ensures { IfOk result
+        (λ made. (x : ℕ) → value_in made x ≡ option_or (get nat_cmp own.now x) (value_in base.now x)) }
 {
     let mut made = base.share()?;
     for (x, d) in own.iter().rev() {
@@ -191,7 +192,8 @@ fn see(
     classes: &[ClassHead],
     c: u32,
 ) -> Result<(), NoMemory>
-    ensures { OnOk result ((these : List ℕ) × (order.new.items ≡ order.old.items ++ these) × inner.GoesUp classes.now seen.old seen.new (Some c) these) }
+    ensures { OnOk result ((these : List ℕ) × (order.new.items ≡ order.old.items ++ these)
+        × inner.GoesUp classes.now seen.old seen.new (Some c) these) }
 {
     let mut next = Some(c);
     while let Some(c) = next {

@@ -78,7 +78,8 @@ fn note_member(
     x: u32,
     d: usize,
 ) -> Result<(), NoMemory>
-    ensures ok { OnOk result ((b y : ℕ) → member_at classes.new.items b y ≡ option_or (member_at classes.old.items b y) (if c == b && (x == y) then Some d else None)) }
+    ensures ok { OnOk result ((b y : ℕ) → member_at classes.new.items b y
+        ≡ option_or (member_at classes.old.items b y) (if c == b && (x == y) then Some d else None)) }
     ensures err { OnErr result ((b y : ℕ) → member_at classes.new.items b y ≡ member_at classes.old.items b y) }
 {
     let at = c as usize;
@@ -113,8 +114,10 @@ impl Numbers {
 
     /// Notes a number for a name of an owner, unless it has one. After `NoMemory` nothing is noted.
     pub fn note(&mut self, owner: Owner, x: u32, d: usize) -> Result<(), NoMemory>
-        ensures ok { OnOk result ((other : Belonging) (y : ℕ) → number_at self.new other y ≡ option_or (number_at self.old other y) (if same_owner owner other && (x == y) then Some d else None)) }
-        ensures err { OnErr result ((other : Belonging) (y : ℕ) → number_at self.new other y ≡ number_at self.old other y) }
+        ensures ok { OnOk result ((other : Belonging) (y : ℕ) → number_at self.new other y
+            ≡ option_or (number_at self.old other y) (if same_owner owner other && (x == y) then Some d else None)) }
+        ensures err { OnErr result
+            ((other : Belonging) (y : ℕ) → number_at self.new other y ≡ number_at self.old other y) }
     {
         match owner {
             Owner::Whole => note(&mut self.whole, x, d),
@@ -124,7 +127,8 @@ impl Numbers {
 
     /// Puts the numbers of the names of the class c over those of another map.
     pub fn put_members(&self, c: u32, base: &PersistentMap) -> Result<PersistentMap, NoMemory>
-        ensures { IfOk result (λ made. (x : ℕ) → value_in made x ≡ option_or (member_at self.now.classes.items c x) (value_in base.now x)) }
+        ensures { IfOk result (λ made. (x : ℕ)
+            → value_in made x ≡ option_or (member_at self.now.classes.items c x) (value_in base.now x)) }
     {
         match self.classes.get(c as usize) {
             None => base.share(),

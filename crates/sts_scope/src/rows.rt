@@ -10,7 +10,8 @@ pub fn rows_of_names()
     ensures dollar { refused (global 4 3 ∷ []) ≡ failure_at UnknownName 4 }
     ensures second { refused (global 4 0 ∷ function 19 0 [] ∷ []) ≡ failure_at TwiceNamed 19 }
     ensures before_bases { refused (subclass 6 0 1 16 [] ∷ class 28 0 [] ∷ []) ≡ failure_at TwiceNamed 28 }
-    ensures none { refused (global 4 0 ∷ class 16 1 (field 20 0 ∷ empty_method 30 1 ∷ []) ∷ function 50 2 (parameter 52 0 (Some (s.Named 55 1)) ∷ []) ∷ []) ≡ None }
+    ensures none { refused (global 4 0 ∷ class 16 1 (field 20 0 ∷ empty_method 30 1 ∷ [])
+        ∷ function 50 2 (parameter 52 0 (Some (s.Named 55 1)) ∷ []) ∷ []) ≡ None }
 {}
 
 /// Bases of classes.
@@ -29,13 +30,19 @@ pub fn rows_of_headings()
     ensures unknown_type { refused (function 9 0 (parameter 11 1 (Some (s.ListOf (s.Named 14 2))) ∷ []) ∷ [])
         ≡ failure_at UnknownName 14 }
     ensures untyped { refused (function 9 0 (parameter 11 1 None ∷ []) ∷ []) ≡ failure_at NeedsType 11 }
-    ensures second_parameter { refused (function 9 0 (parameter 11 1 (Some s.Number) ∷ parameter 22 1 (Some s.Number) ∷ []) ∷ []) ≡ failure_at TwiceNamed 22 }
-    ensures untyped_second { refused (function 9 0 (parameter 11 1 (Some s.Number) ∷ parameter 22 1 None ∷ []) ∷ []) ≡ failure_at NeedsType 22 }
+    ensures second_parameter { refused (function 9 0 (parameter 11 1 (Some s.Number)
+        ∷ parameter 22 1 (Some s.Number) ∷ []) ∷ []) ≡ failure_at TwiceNamed 22 }
+    ensures untyped_second { refused (function 9 0 (parameter 11 1 (Some s.Number) ∷ parameter 22 1 None ∷ []) ∷ [])
+        ≡ failure_at NeedsType 22 }
     ensures second_member { refused (class 6 0 (field 10 1 ∷ empty_method 20 1 ∷ []) ∷ []) ≡ failure_at TwiceNamed 20 }
-    ensures second_constructor { refused (class 6 0 (constructor 10 ∷ constructor 30 ∷ []) ∷ []) ≡ failure_at TwiceNamed 30 }
-    ensures field_of_base { refused (class 6 0 (field 10 1 ∷ []) ∷ subclass 30 2 0 40 (field 44 1 ∷ []) ∷ []) ≡ failure_at TwiceNamed 44 }
-    ensures method_over_field { refused (subclass 6 2 0 16 (empty_method 20 1 ∷ []) ∷ class 40 0 (field 44 1 ∷ []) ∷ []) ≡ failure_at TwiceNamed 20 }
-    ensures method_over_method { refused (subclass 6 2 0 16 (empty_method 20 1 ∷ []) ∷ class 40 0 (empty_method 44 1 ∷ []) ∷ []) ≡ None }
+    ensures second_constructor { refused (class 6 0 (constructor 10 ∷ constructor 30 ∷ []) ∷ [])
+        ≡ failure_at TwiceNamed 30 }
+    ensures field_of_base { refused (class 6 0 (field 10 1 ∷ []) ∷ subclass 30 2 0 40 (field 44 1 ∷ []) ∷ [])
+        ≡ failure_at TwiceNamed 44 }
+    ensures method_over_field { refused (subclass 6 2 0 16 (empty_method 20 1 ∷ []) ∷ class 40 0 (field 44 1 ∷ []) ∷ [])
+        ≡ failure_at TwiceNamed 20 }
+    ensures method_over_method { refused (subclass 6 2 0 16 (empty_method 20 1 ∷ [])
+        ∷ class 40 0 (empty_method 44 1 ∷ []) ∷ []) ≡ None }
     ensures untyped_field { refused (class 6 0 (untyped_field 10 1 ∷ []) ∷ []) ≡ failure_at NeedsType 10 }
     ensures text_order { refused (class 6 0 (untyped_field 10 1 ∷ []) ∷ function 30 1 (parameter 32 2 None ∷ []) ∷ [])
         ≡ failure_at NeedsType 10 }

@@ -109,7 +109,8 @@ impl SymbolTable {
     /// Puts the members of the class c over those of its base.
     #[tactic(auto, using(crate::proofs::Longer::own_put))]
     pub fn put_members(&self, c: u32, base: &PersistentMap) -> Result<PersistentMap, NoMemory>
-        ensures { IfOk result (λ made. (x : ℕ) → value_in made x ≡ option_or (look.entry_number self.now (o.Class c) x) (value_in base.now x)) }
+        ensures { IfOk result (λ made. (x : ℕ)
+            → value_in made x ≡ option_or (look.entry_number self.now (o.Class c) x) (value_in base.now x)) }
     {
         self.numbers.put_members(c, base)
     }

@@ -12,7 +12,8 @@ pub record TookPart (old new : Option (List ℕ)) (bytes : List ℕ) : Type 0 wh
   pub told : (had : List ℕ) → old ≡ Some had → (part : List ℕ) × IsPrefix part bytes × (new ≡ Some (had ++ part))
 
 -- A put of these bytes, or several in a row, went so: all were taken, or a part of them and the count of faults rose.
-pub record Puts {T E : Type 0} (taken taken' : Option (List ℕ)) (faults faults' : ℕ) (bytes : List ℕ) (outcome : Result T E) : Type 0 where
+pub record Puts {T E : Type 0} (taken taken' : Option (List ℕ)) (faults faults' : ℕ) (bytes : List ℕ)
+    (outcome : Result T E) : Type 0 where
   pub took : OnOk outcome (Took taken taken' bytes)
   pub part : OnErr outcome (TookPart taken taken' bytes)
   pub later : faults ≤ faults'

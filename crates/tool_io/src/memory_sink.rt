@@ -69,9 +69,11 @@ impl Sink for MemorySink {
     ghost faults = { λ sink. sink.faults };
 
     fn put(&mut self, piece: &[u8]) -> Result<(), PutFailed>
-        ensures puts { Puts (Some self.old.taken.items) (Some self.new.taken.items) self.old.faults self.new.faults piece.now result }
+        ensures puts { Puts (Some self.old.taken.items)
+            (Some self.new.taken.items) self.old.faults self.new.faults piece.now result }
         ensures calls { self.new.calls ≡ one_more self.old.calls }
-        ensures exact { IsOk result ↔ ((Contains self.old.failing self.new.calls → ⊥) × (length piece.now ≤ self.old.room)) }
+        ensures exact { IsOk result
+            ↔ ((Contains self.old.failing self.new.calls → ⊥) × (length piece.now ≤ self.old.room)) }
         ensures nothing { OnErr result (self.new.taken.items ≡ self.old.taken.items) }
         ensures room_less { OnOk result (self.new.room + length piece.now ≡ self.old.room) }
         ensures room_stays { OnErr result (self.new.room ≡ self.old.room) }

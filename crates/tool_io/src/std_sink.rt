@@ -44,7 +44,8 @@ impl<W: Write + Drop> Sink for StdSink<W> {
 
     fn put(&mut self, piece: &[u8]) -> Result<(), PutFailed>
         ensures puts { Puts (append_known (W.contents self.old.stream.writer) self.old.stream.held.items)
-            (append_known (W.contents self.new.stream.writer) self.new.stream.held.items) self.old.faults self.new.faults piece.now result }
+            (append_known (W.contents self.new.stream.writer) self.new.stream.held.items) self.old.faults
+            self.new.faults piece.now result }
         ensures line { OnOk result (EndsLine piece.now → self.new.stream.held.items ≡ []) }
         ensures counted { OnErr result (self.new.faults ≡ one_more self.old.faults) }
         ensures uncounted { OnOk result (self.new.faults ≡ self.old.faults) }
