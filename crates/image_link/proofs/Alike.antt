@@ -19,7 +19,8 @@ use Rattle.thumb_layout.specs.Flash.{IsOutside}
 use Rattle.thumb_divide.specs.Routine.{routine_bytes}
 use Rattle.thumb_emit.specs.Emit.{division}
 use Rattle.thumb_emit.specs.InFlash.{Addresses, callee_at, word_for}
-use Rattle.image_link.specs.Image.{base, return_at, head_length, head, opened, slot_words, class_table, text_bytes, is_named, HasBytes, AreFilled, HasFunction, Section, code_section, routine_section, table_section, text_section, code_sections, table_sections, text_sections, sections, StandBehind, IsLinked}
+use Rattle.image_link.specs.Image.{base, return_at, head_length, head, opened, slot_words, class_table, text_bytes, is_named, HasBytes, AreFilled, HasFunction, Section, sections, StandBehind, IsLinked}
+use Rattle.image_link.proofs.SectionKinds.{code_section, routine_section, table_section, text_section, code_sections, table_sections, text_sections}
 use Rattle.image_link.proofs.Lists.{all_append, map_of_all, numbered_get, get_numbered, chosen_get, get_chosen}
 use Rattle.image_link.proofs.NamedTexts.{IsHere, code_here}
 use Rattle.image_link.proofs.Behind.{Throughout, covered, AreAsLong, as_long_map, as_long_append, same_sections, same_length, same_between}

@@ -5,7 +5,8 @@ use Rattle.std.specs.List.{AllByRecursion, enumerate_from, filter}
 use Rattle.std.proofs.lemmas.Bool.Decides.{nat_tests}
 use Rattle.thumb_code.specs.Map.{flash_byte}
 use Rattle.thumb_emit.specs.InFlash.{Addresses}
-use Rattle.image_link.specs.Image.{Section, text_section, StandBehind}
+use Rattle.image_link.specs.Image.{Section, StandBehind}
+use Rattle.image_link.proofs.SectionKinds.{text_section}
 use Rattle.image_link.proofs.Lists.{all_more, all_of_map, chosen_get}
 
 -- what holds of a section that stands behind an end

@@ -1,4 +1,5 @@
 pub mod Lists
+pub mod SectionKinds
 pub mod Placing
 pub mod Standing
 pub mod Whole

@@ -9,10 +9,10 @@ use Rattle.flat_ir.specs.declared.ops.FlatCode.{FlatCode}
 use Rattle.thumb_layout.specs.declared.laid.Laid.{Laid}
 use Rattle.thumb_layout.specs.Layout.{up}
 use Rattle.thumb_divide.specs.Routine.{routine_bytes, routine_length}
-use Rattle.image_link.specs.Image.{head_length, head, class_table, text_bytes, is_named, Section, routine_section, code_sections, table_sections, sections, StandBehind, IsLinked}
-use Rattle.image_link.specs.Linkable.{AreFixesOf}
+use Rattle.image_link.specs.Image.{head_length, head, class_table, text_bytes, is_named, Section, sections, StandBehind, IsLinked}
+use Rattle.image_link.proofs.SectionKinds.{routine_section, code_sections, table_sections}
 use Rattle.image_link.specs.inner.Parts.{padded, with_parts, end_with, starts, end_behind}
-use Rattle.image_link.specs.inner.Written.{code_lengths, class_lengths, text_lengths, routine_end, class_end, addresses, parts, written_bytes}
+use Rattle.image_link.specs.inner.Written.{AreFixesOf, code_lengths, class_lengths, text_lengths, routine_end, class_end, addresses, parts, written_bytes}
 use Rattle.image_link.proofs.Standing.{lengths, length_padded, length_part, length_starts, before_parts}
 use Rattle.image_link.proofs.Whole.{all_lengths, parts_long}
 use Rattle.image_link.proofs.Lists.{all_get}

@@ -11,6 +11,7 @@ use Rattle.register_assign.specs.declared.places.Placed.{Placed}
 use Rattle.thumb_layout.specs.declared.pieces.What.{What}
 use Rattle.thumb_layout.specs.declared.pieces.What.TheVariants.{Function, Text, Class}
 use Rattle.thumb_layout.specs.declared.laid.Fix.{Fix}
+use Rattle.thumb_layout.specs.declared.laid.Laid.{Laid}
 use Rattle.thumb_layout.specs.Cells.{laid}
 use Rattle.thumb_layout.specs.Openings.{called, callees, addressed}
 use Rattle.thumb_layout.proofs.Laws.{fixes_called, fixes_named}
@@ -19,7 +20,10 @@ use Rattle.thumb_emit.specs.Names.{name_of, names_of, call_of, calls_of, IsCalle
 use Rattle.thumb_emit.proofs.Laws.{function_named, function_called}
 use Rattle.image_link.proofs.Lists.{all_append}
 use Rattle.image_link.proofs.Showing.{all_fixed}
-use Rattle.image_link.specs.Linkable.{IsThere, AreThere, IsLinkable, NamesTextBelow, NamesTextsBelow}
+use Rattle.image_link.specs.Linkable.{IsThere, IsLinkable, NamesTextBelow, NamesTextsBelow}
+
+abbrev AreThere : (functions classes texts : ℕ) → Laid → Type 0
+AreThere functions classes texts l = AllByRecursion (λ f. IsThere functions classes texts f.call f.what) l.fixes
 
 all_at : {X : Type 0} (P : X → Type 0) (xs : List X) (k : ℕ) (d : X) → k < length xs → AllByRecursion P xs → P (get_or xs k d)
 all_at P [] k d l h = absurd (omega arith)

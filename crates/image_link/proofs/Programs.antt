@@ -24,7 +24,8 @@ use Rattle.thumb_divide.specs.Routine.{routine_bytes, routine_length, HasRoutine
 use Rattle.thumb_divide.proofs.Laws.{bytes_have_routine}
 use Rattle.thumb_emit.specs.Emit.{division}
 use Rattle.thumb_emit.specs.InFlash.{Addresses, IsNamed, callee_at, word_for, ShowsFunction, ShowsClass, ShowsText, InFlash}
-use Rattle.image_link.specs.Image.{base, head_length, head, opened, class_table, slot_words, text_bytes, is_named, HasBytes, AreFilled, Section, code_section, routine_section, table_section, text_section, code_sections, table_sections, text_sections, sections, StandBehind}
+use Rattle.image_link.specs.Image.{base, head_length, head, opened, class_table, slot_words, text_bytes, is_named, HasBytes, AreFilled, Section, sections, StandBehind}
+use Rattle.image_link.proofs.SectionKinds.{code_section, routine_section, table_section, text_section, code_sections, table_sections, text_sections}
 use Rattle.image_link.specs.Shown.{IsImaged}
 use Rattle.image_link.specs.inner.Written.{IsPlace}
 use Rattle.image_link.proofs.Lists.{all_more, all_split, all_append, all_of_map, map_of_all, all_get, numbered_get, get_numbered, chosen_get, get_chosen}

@@ -24,13 +24,15 @@ base = 0x20003F80
 abbrev pub return_at : ℕ
 return_at = 12
 
--- An image begins with three words (the base, main's code address, and the one to which a fiber's function returns) and the instruction that
--- ends a fiber.
+-- An image begins with three words (the base, main's code address, and the one to which a fiber's function returns) and
+-- the instruction that ends a fiber.
 abbrev pub head_length : ℕ
 head_length = 14
 
 abbrev pub head : Addresses → ℕ → List ℕ
-head a main = word_bytes base ++ (word_bytes (word_for a (Function main)) ++ (word_bytes (return_at + 1) ++ spelled (half (Svc 0))))
+head a main =
+    word_bytes base ++ (word_bytes (word_for a (Function main))
+    ++ (word_bytes (return_at + 1) ++ spelled (half (Svc 0))))
 
 -- The four bytes for what is open in code at an address: a BL to what is called, or the word for what is named.
 abbrev pub opened : Addresses → ℕ → Bool → What → List ℕ
@@ -54,21 +56,20 @@ abbrev pub is_this_text : ℕ → What → Bool
 is_this_text i (Text j) = j == i
 is_this_text i what = false
 
-abbrev pub names_text : ℕ → List Fix → Bool
-names_text i fixes = list_any (λ f. is_this_text i f.what) fixes
-
 abbrev pub is_named : List Laid → ℕ → Bool
-is_named laid i = list_any (λ l. names_text i l.fixes) laid
+is_named laid i = list_any (λ l. list_any (λ f. is_this_text i f.what) l.fixes) laid
 
 -- Bytes stand in an image from an address on.
 abbrev pub HasBytes : List ℕ → ℕ → List ℕ → Type 0
 HasBytes image at bytes = (k : ℕ) → k < length bytes → flash_byte image (at + k) ≡ slice_index bytes k
 
--- What is open in code that stands at an address has its four bytes, but for those that are open once more, further on in the list.
+-- What is open in code that stands at an address has its four bytes, but for those that are open once more, further on
+-- in the list.
 abbrev pub AreFilled : List ℕ → Addresses → ℕ → List Fix → Type 0
 AreFilled image a at [] = Unit {0}
 AreFilled image a at (f ∷ fs) =
-    ((j : ℕ) → j < 4 → IsOutside (f.at + j) fs → flash_byte image (at + (f.at + j)) ≡ slice_index (opened a (at + f.at) f.call f.what) j) × AreFilled image a at fs
+    ((j : ℕ) → j < 4 → IsOutside (f.at + j) fs
+    → flash_byte image (at + (f.at + j)) ≡ slice_index (opened a (at + f.at) f.call f.what) j) × AreFilled image a at fs
 
 -- A function's code stands at an address: its bytes, and what was open in it.
 pub record HasFunction (image : List ℕ) (a : Addresses) (at : ℕ) (l : Laid) : Type 0 where
@@ -80,38 +81,28 @@ pub record Section : Type 0 where
   pub at : ℕ
   pub long : ℕ
 
-abbrev pub code_section : Addresses → ℕ × Laid → Section
-code_section a p = record { at = a.function p.0; long = length p.1.bytes }
+abbrev pub section : (at long : ℕ) → Section
+section at long = record { at = at; long = long }
 
-abbrev pub routine_section : Addresses → Section
-routine_section a = record { at = a.routine; long = routine_length }
-
-abbrev pub table_section : Addresses → ℕ × FlatClass → Section
-table_section a p = record { at = a.class p.0; long = 4 + 4 * length p.1.slots }
-
-abbrev pub text_section : Addresses → ℕ × List ℕ → Section
-text_section a p = record { at = a.text p.0; long = 4 + length p.1 }
-
--- The sections in their order: each function's code, the division routine, each class's table, and each text that code names.
-abbrev pub code_sections : Addresses → List Laid → List Section
-code_sections a laid = map (code_section a) (enumerate_from 0 laid)
-
-abbrev pub table_sections : Addresses → List FlatClass → List Section
-table_sections a classes = map (table_section a) (enumerate_from 0 classes)
-
-abbrev pub text_sections : Addresses → List Laid → List (List ℕ) → List Section
-text_sections a laid texts = map (text_section a) (filter (λ p. is_named laid p.0) (enumerate_from 0 texts))
-
+-- The sections in their order: each function's code, the division routine, each class's table, which is a word and one
+-- a slot, and each text that code names, which is the word of its length and its bytes.
 abbrev pub sections : Addresses → List Laid → List FlatClass → List (List ℕ) → List Section
-sections a laid classes texts = code_sections a laid ++ (routine_section a ∷ (table_sections a classes ++ text_sections a laid texts))
+sections a laid classes texts =
+    map (λ (p : ℕ × Laid). section (a.function p.0) (length p.1.bytes)) (enumerate_from 0 laid)
+    ++ (section a.routine routine_length
+    ∷ (map (λ (p : ℕ × FlatClass). section (a.class p.0) (4 + 4 * length p.1.slots)) (enumerate_from 0 classes)
+    ++ map (λ (p : ℕ × List ℕ). section (a.text p.0) (4 + length p.1))
+    (filter (λ p. is_named laid p.0) (enumerate_from 0 texts))))
 
--- Sections stand one behind another, the first behind an end: each begins at the next multiple of 4, with zeros before it, and the image ends
--- with the last.
+-- Sections stand one behind another, the first behind an end: each begins at the next multiple of 4, with zeros before
+-- it, and the image ends with the last.
 abbrev pub StandBehind : List ℕ → ℕ → List Section → Type 0
 StandBehind image end [] = length image ≡ end
-StandBehind image end (s ∷ ss) = (s.at ≡ up end) × ((k : ℕ) → end ≤ k → k < s.at → flash_byte image k ≡ 0) × StandBehind image (s.at + s.long) ss
+StandBehind image end (s ∷ ss) =
+    (s.at ≡ up end) × ((k : ℕ) → end ≤ k → k < s.at → flash_byte image k ≡ 0) × StandBehind image (s.at + s.long) ss
 
--- Laid code, a program's flat code and its texts are linked to an image: each has its bytes in it, and nothing else stands there.
+-- Laid code, a program's flat code and its texts are linked to an image: each has its bytes in it, and nothing else
+-- stands there.
 pub record IsLinked (laid : List Laid) (code : FlatCode) (texts : List (List ℕ)) (image : List ℕ) : Type 0 where
   -- where each stands
   pub at : Addresses
@@ -119,8 +110,10 @@ pub record IsLinked (laid : List Laid) (code : FlatCode) (texts : List (List ℕ
   pub begins : HasBytes image 0 (head at code.main)
   pub functions : (f : ℕ) (l : Laid) → slice_get laid f ≡ Some l → HasFunction image at (at.function f) l
   pub routine : HasBytes image at.routine routine_bytes
-  pub classes : (c : ℕ) (class : FlatClass) → slice_get code.classes c ≡ Some class → HasBytes image (at.class c) (class_table at class)
-  pub named_texts : (i : ℕ) (text : List ℕ) → slice_get texts i ≡ Some text → is_named laid i ≡ true → HasBytes image (at.text i) (text_bytes text)
+  pub classes : (c : ℕ) (class : FlatClass) → slice_get code.classes c ≡ Some class
+      → HasBytes image (at.class c) (class_table at class)
+  pub named_texts : (i : ℕ) (text : List ℕ) → slice_get texts i ≡ Some text → is_named laid i ≡ true
+      → HasBytes image (at.text i) (text_bytes text)
   -- one behind another, in this order
   pub order : StandBehind image head_length (sections at laid code.classes texts)
   -- a number that no function, class or text has stands for address 0

@@ -12,7 +12,8 @@ use Rattle.thumb_layout.specs.declared.laid.Fix.{Fix}
 use Rattle.thumb_layout.specs.declared.laid.Laid.{Laid}
 use Rattle.thumb_emit.specs.Emit.{division}
 
--- A call is of a function or of the division routine, and what a word stands for is there, among so many functions, classes and texts.
+-- A call is of a function or of the division routine, and what a word stands for is there, among so many functions,
+-- classes and texts.
 abbrev pub IsThere : (functions classes texts : ℕ) → Bool → What → Type 0
 IsThere functions classes texts true (Function f) = (f < functions) ⊎ (f ≡ division)
 IsThere functions classes texts false (Function f) = f < functions
@@ -25,18 +26,13 @@ pub record IsFixOf (bytes : ℕ) (f : Fix) : Type 0 where
   pub even : f.at % 2 ≡ 0
   pub within : f.at + 4 ≤ bytes
 
-abbrev pub AreFixesOf : Laid → Type 0
-AreFixesOf l = AllByRecursion (IsFixOf (length l.bytes)) l.fixes
-
-abbrev pub AreThere : (functions classes texts : ℕ) → Laid → Type 0
-AreThere functions classes texts l = AllByRecursion (λ f. IsThere functions classes texts f.call f.what) l.fixes
-
 -- The code is well formed, and there is laid code of each function, in order.
 pub record IsLinkable (laid : List Laid) (code : FlatCode) (texts : ℕ) : Type 0 where
   pub formed : IsWellFormed code
   pub entries : length laid ≡ length code.functions
-  pub fixes : AllByRecursion AreFixesOf laid
-  pub there : AllByRecursion (AreThere (length code.functions) (length code.classes) texts) laid
+  pub fixes : AllByRecursion (λ l. AllByRecursion (IsFixOf (length l.bytes)) l.fixes) laid
+  pub there : AllByRecursion (λ l. AllByRecursion
+      (λ f. IsThere (length code.functions) (length code.classes) texts f.call f.what) l.fixes) laid
 
 -- Every text that a function's ops name is one of the first so many.
 abbrev pub NamesTextBelow : ℕ → Op → Type 0

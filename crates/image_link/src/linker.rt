@@ -3,9 +3,9 @@ ghost use Rattle.std.specs.Prelude.{◌≡◌, ◌<◌, ◌≤◌, ◌+◌, ℕ,
 ghost use Rattle.std.specs.List.{AllByRecursion};
 ghost use Rattle.thumb_code.specs.Map.{flash_end};
 ghost use Rattle.image_link.specs.Image.{is_named, IsLinked};
-ghost use Rattle.image_link.specs.Linkable.{IsLinkable, AreFixesOf};
+ghost use Rattle.image_link.specs.Linkable.{IsLinkable};
 ghost use Rattle.image_link.specs.inner.Written as whole;
-ghost use Rattle.image_link.specs.inner.Written.{as_addresses, image_end, written_bytes};
+ghost use Rattle.image_link.specs.inner.Written.{AreFixesOf, as_addresses, image_end, written_bytes};
 
 use crate::addresses::{Addresses, place_parts};
 use crate::naming::named_texts;

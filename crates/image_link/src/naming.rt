@@ -1,7 +1,8 @@
 //! Which texts code names.
 ghost use Rattle.std.specs.Prelude.{◌≡◌, ◌||◌, ℕ, ◌<◌, false, length, slice_index_or, replicate, IfOk};
 ghost use Rattle.std.specs.List.{AllByRecursion};
-ghost use Rattle.image_link.specs.Image.{is_this_text, names_text, is_named};
+ghost use Rattle.image_link.specs.Image.{is_this_text, is_named};
+ghost use Rattle.image_link.specs.inner.Written.{names_text};
 
 use std::alloc::Global;
 use sts_base::NoMemory;

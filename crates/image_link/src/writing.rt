@@ -7,9 +7,8 @@ ghost use Rattle.thumb_code.specs.Map.{flash_end};
 ghost use Rattle.thumb_layout.specs.Layout.{up};
 ghost use Rattle.thumb_layout.specs.Cells.{word_bytes, spelled};
 ghost use Rattle.image_link.specs.Image.{head, class_table, slot_words, text_bytes, is_named};
-ghost use Rattle.image_link.specs.Linkable.{AreFixesOf};
 ghost use Rattle.image_link.specs.inner.Parts.{padded, with_parts};
-ghost use Rattle.image_link.specs.inner.Written.{as_addresses, ArePlaced, class_parts, code_parts, text_parts};
+ghost use Rattle.image_link.specs.inner.Written.{AreFixesOf, as_addresses, ArePlaced, class_parts, code_parts, text_parts};
 
 use crate::addresses::Addresses;
 use crate::filling::{filled, word_bytes};

@@ -1,5 +1,6 @@
 -- The bytes of an image, as they are written: where its parts begin, by their lengths, and each behind the one before.
-use Rattle.std.specs.Prelude.{◌≡◌, ℕ, ◌+◌, ◌*◌, ◌%◌, ◌≤◌, List, [], ◌∷◌, ◌++◌, length, map, if◌then◌else◌, Option, Some, None, slice_index}
+use Rattle.std.specs.Prelude.{◌≡◌, ℕ, ◌+◌, ◌*◌, ◌%◌, ◌≤◌, List, [], ◌∷◌, ◌++◌, length, map, if◌then◌else◌, Option, Some, None, Bool, slice_index}
+use Rattle.std.specs.List.{AllByRecursion, list_any}
 use Rattle.std.proofs.lemmas.List.Edits.{sets}
 use Rattle.thumb_code.specs.Map.{flash_end}
 use Rattle.flat_ir.specs.declared.ops.FlatClass.{FlatClass}
@@ -10,11 +11,20 @@ use Rattle.thumb_layout.specs.Layout.{up}
 use Rattle.thumb_divide.specs.Routine.{routine_bytes, routine_length}
 use Rattle.thumb_emit.specs.InFlash.{Addresses}
 use Rattle.image_link.specs.declared.addresses.Addresses as code
-use Rattle.image_link.specs.Image.{head_length, head, opened, class_table, text_bytes, is_named}
+use Rattle.image_link.specs.Image.{head_length, head, opened, class_table, text_bytes, is_this_text, is_named}
+use Rattle.image_link.specs.Linkable.{IsFixOf}
 use Rattle.image_link.specs.inner.Parts.{starts, end_behind, with_parts}
 
--- The lengths of the parts: of the functions' code; of the classes' tables, which are a word and one a slot; and of the texts from number i
--- on, which are a word and the bytes.
+-- Some fix names text i.
+abbrev pub names_text : ℕ → List Fix → Bool
+names_text i fixes = list_any (λ f. is_this_text i f.what) fixes
+
+-- The fixes of laid code stand wholly in its bytes.
+abbrev pub AreFixesOf : Laid → Type 0
+AreFixesOf l = AllByRecursion (IsFixOf (length l.bytes)) l.fixes
+
+-- The lengths of the parts: of the functions' code; of the classes' tables, which are a word and one a slot; and of the
+-- texts from number i on, which are a word and the bytes.
 abbrev pub code_lengths : List Laid → List (Option ℕ)
 code_lengths laid = map (λ l. Some (length l.bytes)) laid
 
@@ -48,7 +58,13 @@ addresses laid classes texts = record {
 
 -- The addresses that the code keeps, by numbers.
 abbrev pub as_addresses : code.Addresses → Addresses
-as_addresses a = record { function = slice_index a.functions; class = slice_index a.classes; text = slice_index a.texts; routine = a.routine }
+as_addresses a =
+    record {
+      function = slice_index a.functions;
+      class = slice_index a.classes;
+      text = slice_index a.texts;
+      routine = a.routine;
+    }
 
 -- An address of a part is a multiple of 4, and no part is past the end of flash.
 abbrev pub IsPlace : ℕ → Type 0
@@ -78,8 +94,10 @@ text_parts laid i [] = []
 text_parts laid i (t ∷ ts) = (if is_named laid i then Some (text_bytes t) else None) ∷ text_parts laid (i + 1) ts
 
 abbrev pub parts : Addresses → List Laid → List FlatClass → List (List ℕ) → List (Option (List ℕ))
-parts a laid classes texts = code_parts a 0 laid ++ (Some routine_bytes ∷ (class_parts a classes ++ text_parts laid 0 texts))
+parts a laid classes texts =
+    code_parts a 0 laid ++ (Some routine_bytes ∷ (class_parts a classes ++ text_parts laid 0 texts))
 
 -- All bytes.
 unfoldable pub written_bytes : List Laid → FlatCode → List (List ℕ) → List ℕ
-written_bytes laid code texts = let a = addresses laid code.classes texts in with_parts (head a code.main) (parts a laid code.classes texts)
+written_bytes laid code texts =
+    let a = addresses laid code.classes texts in with_parts (head a code.main) (parts a laid code.classes texts)
