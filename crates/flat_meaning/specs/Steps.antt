@@ -91,11 +91,10 @@ module _ (C : FlatCode) (texts : List ByteList) where
         if service == PUSH then with_pair args (λ a v. after (pushed h a v) (λ x. grown x.0 x.1 (gives to default)))
         else after (requested service args) (λ r. asked (flat_asker to (answers service)) r)
 
-    -- the method in a slot of the first argument's class
-    abbrev pub method : ℕ → List Value → Outcome ℕ
-    method slot args =
-        then_gives (first args) (λ o. then_gives (object_at h o)
-        (λ c. then_gives (there (entry C.classes c.0)) (λ class. there (entry class.slots slot))))
+    -- the function in a slot of the first argument's class
+    abbrev pub slot_function : ℕ → List Value → Outcome ℕ
+    slot_function slot args =
+        then_gives (first args) (λ o. then_gives (object_at h o) (λ c. then_gives (there (entry C.classes c.0)) (λ class. there (entry class.slots slot))))
 
     -- one op
     abbrev pub act : Op → FlatTurn
@@ -115,8 +114,7 @@ module _ (C : FlatCode) (texts : List ByteList) where
     act (MakeObject to class) = after (there (entry C.classes class)) (λ c. makes to class c.words)
     act (MakeArray to room) = Takes (array_words room) (λ at. (gives to (Object at), with_cell at (Items tt room []) h))
     act (Call to function args) = called h base (f ∷ callers) function (map f.temps args)
-    act (CallSlot to slot args) =
-        after (method slot (map f.temps args)) (λ g. called h base (f ∷ callers) g (map f.temps args))
+    act (CallSlot to slot args) = after (slot_function slot (map f.temps args)) (λ g. called h base (f ∷ callers) g (map f.temps args))
     act (HandlerOf to function) = Goes (gives to (Code function)) h
     act (Ask to service args) = asks to service (map f.temps args)
     act (Jump target) = Goes (goes_to target) h

@@ -32,7 +32,8 @@ use Rattle.sts_lower.specs.Code.{bump_code, get_op, set_op, bump_op, unbump_op, 
 use Rattle.sts_lower.specs.Lowered.{lowered, repeating, repeated_in_program, flat_class, flat_classes}
 use Rattle.lowered_code.specs.Fine.{IsThere, IsFine}
 use Rattle.lower_simulation.specs.Places.{Marks, Marked, IsAbove, IsProper, AllAmong, HasAt}
-use Rattle.lower_simulation.specs.Tied.{Shows, CodeTied, fetched, LiesIn, NearIn, FrameTied, FrameWaits, AllWait, Tied}
+use Rattle.std.specs.List.{AllZip}
+use Rattle.lower_simulation.specs.Tied.{Shows, CodeTied, fetched, LiesIn, NearIn, FrameTied, FrameWaits, Tied}
 use Rattle.lower_simulation.specs.Limits.{limit, IsLight}
 use Rattle.lower_simulation.proofs.Statements.{statement_at, turn_at, each_at}
 use Rattle.lower_simulation.proofs.Temporaries.{entry_same, entry_other, shows_rest, shows_above, shows_put, shows_param, shows_local, Taking, takes, marked}
@@ -53,7 +54,7 @@ module _ (P : TypedProgram) (texts : List ByteList) (fine : IsFine P) (weight : 
   fr j place temps = record { function = j; place = place; temps = temps }
 
   module _ (used : ℕ) (h : Heap) (f j : ℕ) (n : Names) (callers : List Frame) (waiting : List FlatFrame) (base depth params locals : ℕ) (deep : words (lowered P) j ≡ source.words P texts f)
-      (wait : AllWait P texts callers waiting) (deepness : depth ≡ base + (words (lowered P) j + depth_of (lowered P) waiting)) (this : is_maker P.classes f ≡ true → 0 < params) where
+      (wait : AllZip (FrameWaits P texts) callers waiting) (deepness : depth ≡ base + (words (lowered P) j + depth_of (lowered P) waiting)) (this : is_maker P.classes f ≡ true → 0 < params) where
     abbrev fetch : ℕ → Option Op
     fetch pc = fetched P texts j pc
 
@@ -252,7 +253,7 @@ module _ (P : TypedProgram) (texts : List ByteList) (fine : IsFine P) (weight : 
         (called_matches P texts fine weight light used h base depth (frame ∷ callers) (fr j pc temps ∷ waiting) (waits, wait) deepness g args nf)
 
     -- the end of a function
-    ended_matches : (v w : Value) → w ≡ v → (fs : List Frame) (bs : List FlatFrame) → AllWait P texts fs bs → depth ≡ base + (words (lowered P) j + depth_of (lowered P) bs)
+    ended_matches : (v w : Value) → w ≡ v → (fs : List Frame) (bs : List FlatFrame) → AllZip (FrameWaits P texts) fs bs → depth ≡ base + (words (lowered P) j + depth_of (lowered P) bs)
         → M used h (source.ended P texts h base depth f v fs) (flat.ended (lowered P) texts (forget h) base waiting w bs)
     ended_matches v w e [] [] waits d = (record { each = λ i j code. (code, refl) }, record { shared = (refl, tt); others = λ a b x. x })
     ended_matches v w e (x ∷ fs) (y ∷ bs) waits d =
@@ -319,10 +320,10 @@ module _ (P : TypedProgram) (texts : List ByteList) (fine : IsFine P) (weight : 
     send_matches : (s : ℕ) (args args' : List Value) (q : Marks) (rest : List Value) (k : Continuation) (pc : ℕ) (temps : ℕ → Value) → args' ≡ args → result_of (fetch pc) ≡ Gives (params + locals + length q) → Sh n q rest temps → By k (pc + 1) (None ∷ q)
         → NoFault (after (then_gives (first args) (λ ob. source.method P texts h ob s)) (λ g. source.invoked P texts h base depth g args (record { function = f; names = n; values = rest; todo = k } ∷ callers)))
         → M used h (after (then_gives (first args) (λ ob. source.method P texts h ob s)) (λ g. source.invoked P texts h base depth g args (record { function = f; names = n; values = rest; todo = k } ∷ callers)))
-        (after (flat.method (lowered P) texts (forget h) (fr j pc temps) waiting base s args') (λ g. flat.called (lowered P) texts (forget h) base (fr j pc temps ∷ waiting) g args'))
+        (after (flat.slot_function (lowered P) texts (forget h) (fr j pc temps) waiting base s args') (λ g. flat.called (lowered P) texts (forget h) base (fr j pc temps ∷ waiting) g args'))
     send_matches s args args' q rest k pc temps same result shows near nf =
-        subst (λ xs. M used h turn (after (flat.method (lowered P) texts (forget h) (fr j pc temps) waiting base s xs) (λ g. flat.called (lowered P) texts (forget h) base (fr j pc temps ∷ waiting) g xs))) (sym same)
-        (by_found (then_gives (first args) (λ ob. source.method P texts h ob s)) (flat.method (lowered P) texts (forget h) (fr j pc temps) waiting base s args)
+        subst (λ xs. M used h turn (after (flat.slot_function (lowered P) texts (forget h) (fr j pc temps) waiting base s xs) (λ g. flat.called (lowered P) texts (forget h) base (fr j pc temps ∷ waiting) g xs))) (sym same)
+        (by_found (then_gives (first args) (λ ob. source.method P texts h ob s)) (flat.slot_function (lowered P) texts (forget h) (fr j pc temps) waiting base s args)
         (agree_then (λ x y. x ≡ y) (λ x y. x ≡ y) (first args) (first args) _ _ (agree_same (first args)) (λ x y e. subst (λ z. Agree (λ a b. a ≡ b) (source.method P texts h x s) (then_gives (object_at (forget h) z) (λ c. then_gives (there (entry (flat_classes P.classes) c.0)) (λ class. there (entry class.slots s))))) e (method_agrees x s))) nf)
       where
         goes_to : ℕ → Turn Activity Heap

@@ -25,7 +25,8 @@ use Rattle.sts_lower.specs.Sizes.{item_size}
 use Rattle.sts_lower.specs.Lowered.{lowered, repeating, repeated_in_program}
 use Rattle.lowered_code.specs.Fine.{IsFine}
 use Rattle.lower_simulation.specs.Places.{Marks, HasAt, each_code}
-use Rattle.lower_simulation.specs.Tied.{Shows, fetched, LiesIn, NearIn, AllWait}
+use Rattle.std.specs.List.{AllZip}
+use Rattle.lower_simulation.specs.Tied.{Shows, fetched, LiesIn, NearIn, FrameWaits}
 use Rattle.lower_simulation.specs.Limits.{IsLight}
 use Rattle.lower_simulation.proofs.Temporaries.{entry_same, entry_other, shows_above, shows_local}
 use Rattle.lowered_code.proofs.Laws.{entry_within}
@@ -43,7 +44,7 @@ module _ (P : TypedProgram) (texts : List ByteList) (fine : IsFine P) (weight : 
   fr j place temps = record { function = j; place = place; temps = temps }
 
   module _ (used : ℕ) (h : Heap) (f j : ℕ) (n : Names) (callers : List Frame) (waiting : List FlatFrame) (base depth params locals : ℕ) (deep : words (lowered P) j ≡ source.words P texts f)
-      (wait : AllWait P texts callers waiting) (deepness : depth ≡ base + (words (lowered P) j + depth_of (lowered P) waiting)) (this : is_maker P.classes f ≡ true → 0 < params) where
+      (wait : AllZip (FrameWaits P texts) callers waiting) (deepness : depth ≡ base + (words (lowered P) j + depth_of (lowered P) waiting)) (this : is_maker P.classes f ≡ true → 0 < params) where
     abbrev fetch : ℕ → Option Op
     fetch pc = fetched P texts j pc
 

@@ -22,7 +22,8 @@ use Rattle.flat_meaning.specs.Steps as flat
 use Rattle.sts_lower.specs.Lowered.{lowered, lowered_routine, repeating, repeated_in_program, repeating_function, repeating_ops}
 use Rattle.lowered_code.specs.Fine.{IsFine}
 use Rattle.lower_simulation.specs.Places.{HasAt}
-use Rattle.lower_simulation.specs.Tied.{Shows, CodeTied, fetched, LiesIn, FrameTied, AllWait}
+use Rattle.std.specs.List.{AllZip}
+use Rattle.lower_simulation.specs.Tied.{Shows, CodeTied, fetched, LiesIn, FrameTied, FrameWaits}
 use Rattle.lower_simulation.specs.Limits.{IsLight}
 use Rattle.lower_simulation.proofs.Requests.{plain_2}
 use Rattle.lower_simulation.proofs.Statements.{body_at}
@@ -59,7 +60,7 @@ module _ (P : TypedProgram) (texts : List ByteList) (fine : IsFine P) (weight : 
       ([], refl, has.0, inl put)
 
   -- a call
-  module _ (used : ℕ) (h : Heap) (base depth : ℕ) (waiting : List Frame) (waiting' : List FlatFrame) (wait : AllWait P texts waiting waiting') (deep : depth ≡ base + depth_of (lowered P) waiting') where
+  module _ (used : ℕ) (h : Heap) (base depth : ℕ) (waiting : List Frame) (waiting' : List FlatFrame) (wait : AllZip (FrameWaits P texts) waiting waiting') (deep : depth ≡ base + depth_of (lowered P) waiting') where
     entering_matches : (a : Frame) (b : FlatFrame) → FrameTied P texts a b → M used h (source.entering P texts h base depth a waiting) (flat.entering (lowered P) texts (forget h) base waiting' b)
     entering_matches a b tied =
         let d : depth + source.words P texts a.function ≡ base + depth_of (lowered P) waiting' + words (lowered P) b.function = let w = tied.words in omega arith in

@@ -6,7 +6,8 @@ use Rattle.std.proofs.lemmas.Bool.Decides.{eqb_tells}
 use Rattle.sts_meaning.specs.Values.{Value, Gives, then_gives, default, with_entry, map_of}
 use Rattle.sts_meaning.specs.Frames.{Names, with_local, with_param, before_these, taken}
 use Rattle.sts_lower.specs.Code.{span}
-use Rattle.lower_simulation.specs.Places.{Marks, Marked, AreMarked, IsAbove}
+use Rattle.std.specs.List.{AllZip}
+use Rattle.lower_simulation.specs.Places.{Marks, Marked, IsAbove}
 use Rattle.lower_simulation.specs.Tied.{Holds, Shows}
 
 pub entry_same : (t : ℕ) (v : Value) (m : ℕ → Value) → with_entry t v m t ≡ v
@@ -109,7 +110,7 @@ takes (suc n) p l names r q vs m above h = more (takes n p l names r (above.0 �
     more : Taking p l n names (above.0 ∷ q) vs m → Taking p l (suc n) names q vs m
     more t = more' t.these t.rest t.taken t.args t.shows
 
-pub marked : (m : ℕ → Value) (base : ℕ) (p : Marks) (vs : List Value) → Holds m base p vs → AreMarked p vs
+pub marked : (m : ℕ → Value) (base : ℕ) (p : Marks) (vs : List Value) → Holds m base p vs → AllZip Marked p vs
 marked m base [] [] h = tt
 marked m base (k ∷ p) (v ∷ vs) h = (h.1, marked m base p vs h.2)
 marked m base [] (v ∷ vs) h = absurd h

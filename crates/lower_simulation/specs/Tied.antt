@@ -1,5 +1,6 @@
 -- When an activity of flat code does what one of the source has left to do.
 use Rattle.std.specs.Prelude.{◌≡◌, ℕ, ◌+◌, ◌<◌, ◌⊎◌, true, List, [], ◌∷◌, length, Option, None}
+use Rattle.std.specs.List.{AllZip}
 use Rattle.board_world.specs.Observations.{ByteList}
 use Rattle.flat_ir.specs.declared.ops.Op.{Op}
 use Rattle.sts_syntax.specs.TypedTrees.{TypedProgram}
@@ -17,11 +18,11 @@ use Rattle.lower_simulation.specs.Places.{Marks, Marked, Near, Lies}
 abbrev pub Holds : (ℕ → Value) → ℕ → Marks → List Value → Type 0
 Holds temps base [] [] = Unit {0}
 Holds temps base (m ∷ p) (v ∷ vs) = (temps (base + length p) ≡ v) × Marked m v × Holds temps base p vs
-Holds temps base [] (v ∷ vs) = ⊥
-Holds temps base (m ∷ p) [] = ⊥
+Holds temps base _ _ = ⊥
 
 -- the names and the pending values of a frame, in the temporaries
-pub record Shows (params locals : ℕ) (names : Names) (p : Marks) (values : List Value) (temps : ℕ → Value) : Type 0 where
+pub record Shows (params locals : ℕ) (names : Names) (p : Marks) (values : List Value)
+    (temps : ℕ → Value) : Type 0 where
   pub of_params : (i : ℕ) → i < params → temps i ≡ names.params i
   pub of_locals : (i : ℕ) → i < locals → temps (params + i) ≡ names.locals i
   pub pending : Holds temps (params + locals) p values
@@ -30,7 +31,9 @@ pub record Shows (params locals : ℕ) (names : Names) (p : Marks) (values : Lis
 module _ (P : TypedProgram) (texts : List ByteList) where
   -- a function of the source, and its number in flat code
   abbrev pub CodeTied : ℕ → ℕ → Type 0
-  CodeTied f j = ((f < length P.functions) × (j ≡ f)) ⊎ ((g : ℕ) × IsOneOf g (repeated_in_program P) × (f ≡ length P.functions + g) × (j ≡ repeating P g))
+  CodeTied f j =
+      ((f < length P.functions) × (j ≡ f))
+      ⊎ ((g : ℕ) × IsOneOf g (repeated_in_program P) × (f ≡ length P.functions + g) × (j ≡ repeating P g))
 
   -- the ops of a function of flat code
   abbrev pub fetched : ℕ → ℕ → Option Op
@@ -39,11 +42,13 @@ module _ (P : TypedProgram) (texts : List ByteList) where
   -- what is left to do in function f of the source lies at a place of function j of flat code
   abbrev pub LiesIn : (f j params locals : ℕ) → Continuation → ℕ → Marks → Type 0
   LiesIn f j params locals k place p =
-      Lies P.classes (length P.functions) (repeating P) (repeated_in_program P) params locals (fetched j) (is_maker P.classes f) k place p
+      Lies P.classes (length P.functions) (repeating P) (repeated_in_program P) params locals (fetched j)
+      (is_maker P.classes f) k place p
 
   abbrev pub NearIn : (f j params locals : ℕ) → Continuation → ℕ → Marks → Type 0
   NearIn f j params locals k place p =
-      Near P.classes (length P.functions) (repeating P) (repeated_in_program P) params locals (fetched j) (is_maker P.classes f) (LiesIn f j params locals k) place p
+      Near P.classes (length P.functions) (repeating P) (repeated_in_program P) params locals (fetched j)
+      (is_maker P.classes f) (LiesIn f j params locals k) place p
 
   -- a frame that runs
   pub record FrameTied (a : Frame) (b : FlatFrame) : Type 0 where
@@ -66,16 +71,10 @@ module _ (P : TypedProgram) (texts : List ByteList) where
     pub result : result_of (op_at (lowered P) b) ≡ Gives (params + locals + length marks)
     pub near : NearIn a.function b.function params locals a.todo (b.place + 1) (None ∷ marks)
 
-  abbrev pub AllWait : List Frame → List FlatFrame → Type 0
-  AllWait [] [] = Unit {0}
-  AllWait (a ∷ more) (b ∷ bs) = FrameWaits a b × AllWait more bs
-  AllWait [] (b ∷ bs) = ⊥
-  AllWait (a ∷ more) [] = ⊥
-
   -- an activity
   abbrev pub Tied : Activity → FlatActivity → Type 0
   Tied (Starts f base) (Enters j base') = CodeTied f j × (base ≡ base')
   Tied (Runs a callers base depth) (Stands b waiting base') =
-      FrameTied a b × AllWait callers waiting × (base ≡ base') × (depth ≡ base + depth_of (lowered P) (b ∷ waiting))
-  Tied (Starts f base) (Stands b waiting base') = ⊥
-  Tied (Runs a callers base depth) (Enters j base') = ⊥
+      FrameTied a b × AllZip FrameWaits callers waiting × (base ≡ base')
+      × (depth ≡ base + depth_of (lowered P) (b ∷ waiting))
+  Tied _ _ = ⊥
