@@ -62,33 +62,14 @@ maker_of (class ∷ rest) (suc k) = maker_of rest k
 -- the function whose calls `forever` repeats
 abbrev pub handler_in : TypedTree → ℕ
 handler_in (e.Handler u f) = f
-handler_in (e.Num u n) = 0
-handler_in (e.Text u n) = 0
-handler_in (e.Truth u b) = 0
-handler_in (e.Null u) = 0
-handler_in (e.This u) = 0
-handler_in (e.Name u x) = 0
-handler_in (e.Unary u op a) = 0
-handler_in (e.Binary u op a b) = 0
-handler_in (e.Both u a b) = 0
-handler_in (e.Either u a b) = 0
-handler_in (e.Choice u test a b) = 0
-handler_in (e.Set u op x r) = 0
-handler_in (e.Bump u x by late) = 0
-handler_in (e.Field u a f) = 0
-handler_in (e.Length u a) = 0
-handler_in (e.Item u a i) = 0
-handler_in (e.Call u f args) = 0
-handler_in (e.SuperCall u f args) = 0
-handler_in (e.Make u class args) = 0
-handler_in (e.Items u items) = 0
+handler_in _ = 0
 
 abbrev pub handler_of : TypedTrees → ℕ
 handler_of e.none = 0
 handler_of (e.more a rest) = handler_in a
 
--- Of a program: its classes, and the number of the function that repeats the calls of another one. Of a function: how many
--- parameters it has, and the temporary at which its operands begin.
+-- Of a program: its classes, and the number of the function that repeats the calls of another one. Of a function: how
+-- many parameters it has, and the temporary at which its operands begin.
 module _ (classes : List ClassEntry) (repeating : ℕ → ℕ) (params base : ℕ) where
   -- a number as an argument
   abbrev pub number_part : ℤ → Part
@@ -97,10 +78,7 @@ module _ (classes : List ClassEntry) (repeating : ℕ → ℕ) (params base : �
   -- what a call passes: a service has numbers of its own between the written arguments
   abbrev pub arguments : Callee → List Part → List Part
   arguments (c.Board call) each = arranged number_part (row_of call).action each
-  arguments (c.Function f) each = each
-  arguments (c.Slot s) each = each
-  arguments c.Push each = each
-  arguments c.Pop each = each
+  arguments _ each = each
 
   -- the ops of arguments, one above the other
   abbrev pub parts_code : List Part → (d at : ℕ) → List Op
@@ -175,7 +153,8 @@ module _ (classes : List ClassEntry) (repeating : ℕ → ℕ) (params base : �
       ∷ items_code ps d (at + p.size + 1))
 
   abbrev mutual
-    -- An expression's ops at a place: with d operands pending its value becomes the next one, and what comes after it stands at next.
+    -- An expression's ops at a place: with d operands pending its value becomes the next one, and what comes after it
+    -- stands at next.
     pub code : TypedTree → (d at next : ℕ) → List Op
     code (e.Num u n) d at next = Const (base + d) n ∷ []
     code (e.Text u n) d at next = TextOf (base + d) n ∷ []
@@ -205,11 +184,11 @@ module _ (classes : List ClassEntry) (repeating : ℕ → ℕ) (params base : �
         ++ (code r (stored_at (target x) d) (at + reach_size x) (at + reach_size x + size r)
         ++ store_code (target x) d)
     code (e.Set u (Some op) x r) d at next =
+        (let s = stored_at (target x) d in
         reach_code x d at
         ++ (read_code (target x) d
-        ∷ (code r (suc (stored_at (target x) d)) (at + reach_size x + 1) (at + reach_size x + 1 + size r)
-        ++ (Binary (base + stored_at (target x) d) op (base + stored_at (target x) d)
-        (base + suc (stored_at (target x) d)) ∷ store_code (target x) d)))
+        ∷ (code r (suc s) (at + reach_size x + 1) (at + reach_size x + 1 + size r)
+        ++ (Binary (base + s) op (base + s) (base + suc s) ∷ store_code (target x) d))))
     code (e.Bump u x by late) d at next = reach_code x d at ++ bump_code (target x) by late d
     code (e.Field u a f) d at next = code a d at (at + size a) ++ FieldGet (base + d) (base + d) f ∷ []
     code (e.Length u a) d at next = code a d at (at + size a) ++ Length (base + d) (base + d) ∷ []
@@ -220,14 +199,14 @@ module _ (classes : List ClassEntry) (repeating : ℕ → ℕ) (params base : �
     code (e.Call u f args) d at next =
         (let all = arguments f (parts args) in parts_code all d at ++ call_code f (handler_of args) d (length all))
     code (e.SuperCall u f args) d at next =
-        (let all = parts args in Copy (base + d)
-        0 ∷ (parts_code all (suc d) (at + 1) ++ Call (base + d) f (span (base + d) (suc (length all)) []) ∷ []))
+        (let all = parts args in Copy (base + d) 0 ∷ (parts_code all (suc d) (at + 1)
+        ++ Call (base + d) f (span (base + d) (suc (length all)) []) ∷ []))
     code (e.Make u class args) d at next =
         (let all = parts args in
         parts_code all d at
         ++ (MakeObject (base + (length all + d)) class
-        ∷ (Call (base + d) (maker_of classes class)
-        ((base + (length all + d)) ∷ span (base + d) (length all) []) ∷ [])))
+        ∷ (Call (base + d) (maker_of classes class) ((base + (length all + d)) ∷ span (base + d) (length all) [])
+        ∷ [])))
     code (e.Items u items) d at next =
         (let all = parts items in MakeArray (base + d) (length all) ∷ items_code all d (at + 1))
     code (e.Handler u f) d at next = HandlerOf (base + d) f ∷ []
@@ -240,22 +219,4 @@ module _ (classes : List ClassEntry) (repeating : ℕ → ℕ) (params base : �
     pub reach_code : TypedTree → (d at : ℕ) → List Op
     reach_code (e.Field u a f) d at = code a d at (at + size a)
     reach_code (e.Item u a i) d at = code a d at (at + size a) ++ code i (suc d) (at + size a) (at + size a + size i)
-    reach_code (e.Name u x) d at = []
-    reach_code (e.Num u n) d at = []
-    reach_code (e.Text u n) d at = []
-    reach_code (e.Truth u b) d at = []
-    reach_code (e.Null u) d at = []
-    reach_code (e.This u) d at = []
-    reach_code (e.Unary u op a) d at = []
-    reach_code (e.Binary u op a b) d at = []
-    reach_code (e.Both u a b) d at = []
-    reach_code (e.Either u a b) d at = []
-    reach_code (e.Choice u test a b) d at = []
-    reach_code (e.Set u op x r) d at = []
-    reach_code (e.Bump u x by late) d at = []
-    reach_code (e.Length u a) d at = []
-    reach_code (e.Call u f args) d at = []
-    reach_code (e.SuperCall u f args) d at = []
-    reach_code (e.Make u class args) d at = []
-    reach_code (e.Items u items) d at = []
-    reach_code (e.Handler u f) d at = []
+    reach_code _ d at = []

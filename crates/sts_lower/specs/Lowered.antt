@@ -1,5 +1,5 @@
 -- The flat code of a program.
-use Rattle.std.specs.Prelude.{ℕ, suc, ◌+◌, pos, List, [], ◌∷◌, ◌++◌, length}
+use Rattle.std.specs.Prelude.{ℕ, suc, ◌+◌, pos, List, [], ◌∷◌, ◌++◌, length, map}
 use Rattle.flat_ir.specs.declared.ops.Op.{Op}
 use Rattle.flat_ir.specs.declared.ops.Op.TheVariants.{Const, Call, Ask, Jump}
 use Rattle.flat_ir.specs.declared.ops.Function.{Function}
@@ -20,15 +20,13 @@ abbrev pub repeating_function : ℕ → Function
 repeating_function f = record { params = 0; locals = 0; operands = 1; outgoing = 0; ops = repeating_ops f }
 
 abbrev pub repeating_functions : List ℕ → List Function
-repeating_functions [] = []
-repeating_functions (f ∷ fs) = repeating_function f ∷ repeating_functions fs
+repeating_functions fs = map repeating_function fs
 
 abbrev pub flat_class : ClassEntry → FlatClass
 flat_class c = record { words = object_words c; slots = c.slots }
 
 abbrev pub flat_classes : List ClassEntry → List FlatClass
-flat_classes [] = []
-flat_classes (c ∷ cs) = flat_class c ∷ flat_classes cs
+flat_classes classes = map flat_class classes
 
 module _ (P : TypedProgram) where
   -- the functions that `forever` starts are numbered behind those of the program, in the order of the calls in the text
@@ -49,7 +47,13 @@ module _ (P : TypedProgram) where
 
   abbrev pub lowered_routine : ℕ → TypedRoutine → Function
   lowered_routine f r =
-      record { params = length r.params; locals = length r.locals; operands = pending_words r; outgoing = outgoing_words r; ops = routine_ops f r }
+      record {
+        params = length r.params;
+        locals = length r.locals;
+        operands = pending_words r;
+        outgoing = outgoing_words r;
+        ops = routine_ops f r;
+      }
 
   -- those from number f on
   abbrev pub lowered_routines : ℕ → List TypedRoutine → List Function

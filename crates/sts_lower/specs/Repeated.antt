@@ -4,31 +4,21 @@ use Rattle.sts_syntax.specs.declared.typed.Callee.{Callee}
 use Rattle.sts_syntax.specs.declared.typed.Callee.TheVariants as c
 use Rattle.sts_syntax.specs.TypedTrees as e
 use Rattle.sts_syntax.specs.TypedTrees.{TypedTree, TypedTrees, TypedStatement, TypedStatements, OptionalTypedStatement, TypedDeclaration, TypedRoutine}
-use Rattle.sts_syntax.specs.BoardTable.{BoardAction, Service, Library, Repeats, row_of}
+use Rattle.sts_syntax.specs.BoardTable.{BoardAction, Repeats, row_of}
 use Rattle.sts_lower.specs.Code.{handler_of}
 
 -- the one that a call of the board repeats
 abbrev pub repeated_by : BoardAction → ℕ → List ℕ
-repeated_by (Service number places) handler = []
-repeated_by (Library function) handler = []
 repeated_by Repeats handler = handler ∷ []
+repeated_by _ handler = []
 
 abbrev pub repeated_by_call : Callee → ℕ → List ℕ
 repeated_by_call (c.Board call) handler = repeated_by (row_of call).action handler
-repeated_by_call (c.Function f) handler = []
-repeated_by_call (c.Slot s) handler = []
-repeated_by_call c.Push handler = []
-repeated_by_call c.Pop handler = []
+repeated_by_call _ handler = []
 
 abbrev mutual
   -- in an expression: one for each such call, in the order of the text
   pub repeated : TypedTree → List ℕ
-  repeated (e.Num u n) = []
-  repeated (e.Text u n) = []
-  repeated (e.Truth u b) = []
-  repeated (e.Null u) = []
-  repeated (e.This u) = []
-  repeated (e.Name u x) = []
   repeated (e.Unary u op a) = repeated a
   repeated (e.Binary u op a b) = repeated a ++ repeated b
   repeated (e.Both u a b) = repeated a ++ repeated b
@@ -43,7 +33,7 @@ abbrev mutual
   repeated (e.SuperCall u f args) = repeated_each args
   repeated (e.Make u class args) = repeated_each args
   repeated (e.Items u items) = repeated_each items
-  repeated (e.Handler u f) = []
+  repeated _ = []
 
   pub repeated_each : TypedTrees → List ℕ
   repeated_each e.none = []
@@ -70,10 +60,8 @@ abbrev mutual
       repeated_in_first first ++ (optionally_repeated test ++ (optionally_repeated step ++ repeated_in a))
   repeated_in (e.ForOf fixed x list a) = repeated list ++ repeated_in a
   repeated_in (e.Return value) = optionally_repeated value
-  repeated_in e.Break = []
-  repeated_in e.Continue = []
   repeated_in (e.Plain a) = repeated a
-  repeated_in e.Empty = []
+  repeated_in _ = []
 
   pub repeated_in_first : OptionalTypedStatement → List ℕ
   repeated_in_first e.omitted = []

@@ -1,12 +1,12 @@
 -- How many ops a tree has.
 use Rattle.std.specs.Prelude.{ℕ, ◌+◌, Bool, true, false, List, [], ◌∷◌, Option, Some, None}
 use Rattle.sts_syntax.specs.declared.typed.Spot.{Spot}
-use Rattle.sts_syntax.specs.declared.typed.Spot.TheVariants.{Param, Local, Global}
+use Rattle.sts_syntax.specs.declared.typed.Spot.TheVariants.{Local, Global}
 use Rattle.sts_syntax.specs.declared.typed.Callee.{Callee}
 use Rattle.sts_syntax.specs.declared.typed.Callee.TheVariants as c
 use Rattle.sts_syntax.specs.TypedTrees as e
 use Rattle.sts_syntax.specs.TypedTrees.{TypedTree, TypedTrees, TypedStatement, TypedStatements, OptionalTypedStatement, TypedDeclaration}
-use Rattle.sts_syntax.specs.BoardTable.{BoardAction, Service, Library, Repeats, row_of}
+use Rattle.sts_syntax.specs.BoardTable.{BoardAction, Repeats, row_of}
 use Rattle.sts_syntax.specs.Measures.{total, argument_sizes}
 
 -- what is assigned to
@@ -20,24 +20,7 @@ abbrev pub target : TypedTree → Target
 target (e.Name u x) = ToName x
 target (e.Field u a f) = ToField f
 target (e.Item u a i) = ToItem
-target (e.Num u n) = ToNothing
-target (e.Text u n) = ToNothing
-target (e.Truth u b) = ToNothing
-target (e.Null u) = ToNothing
-target (e.This u) = ToNothing
-target (e.Unary u op a) = ToNothing
-target (e.Binary u op a b) = ToNothing
-target (e.Both u a b) = ToNothing
-target (e.Either u a b) = ToNothing
-target (e.Choice u test a b) = ToNothing
-target (e.Set u op x r) = ToNothing
-target (e.Bump u x by late) = ToNothing
-target (e.Length u a) = ToNothing
-target (e.Call u f args) = ToNothing
-target (e.SuperCall u f args) = ToNothing
-target (e.Make u class args) = ToNothing
-target (e.Items u items) = ToNothing
-target (e.Handler u f) = ToNothing
+target _ = ToNothing
 
 -- the ops of a store, and of `++` and `--`
 abbrev pub store_size : Target → ℕ
@@ -52,25 +35,20 @@ global_bump_size true = 1 + 1 + 1 + 1
 global_bump_size false = 1 + 1 + 1
 
 abbrev pub bump_size : Target → Bool → ℕ
-bump_size (ToName (Param i)) late = 1 + 1
-bump_size (ToName (Local i)) late = 1 + 1
 bump_size (ToName (Global g)) late = global_bump_size late
+bump_size (ToName x) late = 1 + 1
 bump_size (ToField f) late = 1 + 1 + 1 + 1
 bump_size ToItem late = 1 + 1 + 1 + 1
 bump_size ToNothing late = 1
 
 -- the ops of a call behind its arguments
 abbrev pub action_size : BoardAction → ℕ
-action_size (Service number places) = 1
-action_size (Library function) = 1
 action_size Repeats = 1 + 1
+action_size _ = 1
 
 abbrev pub call_size : Callee → ℕ
-call_size (c.Function f) = 1
-call_size (c.Slot s) = 1
-call_size c.Push = 1
-call_size c.Pop = 1
 call_size (c.Board call) = action_size (row_of call).action
+call_size _ = 1
 
 -- each item goes into its array by an op more
 abbrev pub items_size : List ℕ → ℕ
@@ -80,12 +58,6 @@ items_size (n ∷ ns) = n + 1 + items_size ns
 abbrev mutual
   -- an expression's
   pub size : TypedTree → ℕ
-  size (e.Num u n) = 1
-  size (e.Text u n) = 1
-  size (e.Truth u b) = 1
-  size (e.Null u) = 1
-  size (e.This u) = 1
-  size (e.Name u x) = 1
   size (e.Unary u op a) = size a + 1
   size (e.Binary u op a b) = size a + size b + 1
   size (e.Both u a b) = size a + 1 + 1 + size b
@@ -101,7 +73,7 @@ abbrev mutual
   size (e.SuperCall u f args) = 1 + total (sizes args) + 1
   size (e.Make u class args) = total (sizes args) + 1 + 1
   size (e.Items u items) = 1 + items_size (sizes items)
-  size (e.Handler u f) = 1
+  size _ = 1
 
   pub sizes : TypedTrees → List ℕ
   sizes e.none = []
@@ -109,27 +81,9 @@ abbrev mutual
 
   -- of what is evaluated of a target before anything is read from it or stored in it
   pub reach_size : TypedTree → ℕ
-  reach_size (e.Name u x) = 0
   reach_size (e.Field u a f) = size a
   reach_size (e.Item u a i) = size a + size i
-  reach_size (e.Num u n) = 0
-  reach_size (e.Text u n) = 0
-  reach_size (e.Truth u b) = 0
-  reach_size (e.Null u) = 0
-  reach_size (e.This u) = 0
-  reach_size (e.Unary u op a) = 0
-  reach_size (e.Binary u op a b) = 0
-  reach_size (e.Both u a b) = 0
-  reach_size (e.Either u a b) = 0
-  reach_size (e.Choice u test a b) = 0
-  reach_size (e.Set u op x r) = 0
-  reach_size (e.Bump u x by late) = 0
-  reach_size (e.Length u a) = 0
-  reach_size (e.Call u f args) = 0
-  reach_size (e.SuperCall u f args) = 0
-  reach_size (e.Make u class args) = 0
-  reach_size (e.Items u items) = 0
-  reach_size (e.Handler u f) = 0
+  reach_size _ = 0
 
 -- a declared name's, with its initialiser; a test's and a step's of a `for`
 abbrev pub initial_size : Option TypedTree → ℕ
@@ -171,8 +125,7 @@ module _ (maker : Bool) where
     statement_size (e.For first test step a) =
         first_size first + (test_size test + statement_size a + step_size step + 1)
     statement_size (e.ForOf fixed (Local i) list a) = size list + 1 + 1 + 1 + (item_size + statement_size a + 1)
-    statement_size (e.ForOf fixed (Param i) list a) = 1
-    statement_size (e.ForOf fixed (Global g) list a) = 1
+    statement_size (e.ForOf fixed x list a) = 1
     statement_size (e.Return None) = 1 + 1
     statement_size (e.Return (Some a)) = size a + return_size maker
     statement_size e.Break = 1

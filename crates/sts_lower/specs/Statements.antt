@@ -2,7 +2,7 @@
 use Rattle.std.specs.Prelude.{ℕ, zero, suc, ◌+◌, pos, Bool, true, false, List, [], ◌∷◌, ◌++◌, Option, Some, None}
 use Rattle.flat_ir.specs.declared.ops.Op.{Op}
 use Rattle.flat_ir.specs.declared.ops.Op.TheVariants.{Const, Copy, Unary, Binary, ItemGet, Length, Jump, Branch, Return}
-use Rattle.sts_syntax.specs.declared.typed.Spot.TheVariants.{Param, Local, Global}
+use Rattle.sts_syntax.specs.declared.typed.Spot.TheVariants.{Local}
 use Rattle.sts_syntax.specs.TypedTrees as e
 use Rattle.sts_syntax.specs.TypedTrees.{TypedTree, TypedStatement, TypedStatements, OptionalTypedStatement, TypedDeclaration, ClassEntry}
 use Rattle.sts_lower.specs.Sizes.{size, initial_size, test_size, item_size, statement_size, first_size, statements_size}
@@ -46,19 +46,20 @@ module _ (classes : List ClassEntry) (repeating : ℕ → ℕ) (params base : �
   step_code None at = []
   step_code (Some a) at = code classes repeating params base a 0 at (at + size a)
 
-  -- Before each turn of a loop over items: whether the index of the next one is below the length of the list, which is tested for null;
-  -- else the loop ends. Then the item is read, and the index moves on.
+  -- Before each turn of a loop over items: whether the index of the next one is below the length of the list, which is
+  -- tested for null; else the loop ends. Then the item is read, and the index moves on.
   abbrev pub item_code : (i at next : ℕ) → List Op
   item_code i at next =
-      Length (base + 0) (params + suc i) ∷ (Binary (base + 0) 6 (params + suc (suc i)) (base + 0)
-      ∷ (Branch (base + 0) (at + 1 + 1 + 1 + 1) ∷ (Jump next
+      Length (base + 0) (params + suc i)
+      ∷ (Binary (base + 0) 6 (params + suc (suc i)) (base + 0) ∷ (Branch (base + 0) (at + 1 + 1 + 1 + 1) ∷ (Jump next
       ∷ (ItemGet (params + i) (params + suc i) (params + suc (suc i))
       ∷ (Unary (params + suc (suc i)) INCREMENT (params + suc (suc i)) ∷ [])))))
 
   -- in a constructor, or in another function
   module _ (maker : Bool) where
     abbrev mutual
-      -- A statement's ops at a place; what comes after it stands at next, what comes after the loop around it at out, and its next turn at again.
+      -- A statement's ops at a place; what comes after it stands at next, what comes after the loop around it at out,
+      -- and its next turn at again.
       pub statement_code : TypedStatement → (at next out again : ℕ) → List Op
       statement_code (e.Block all) at next out again = statements_code all at next out again
       statement_code (e.Let fixed each) at next out again = declared_code each at
@@ -96,13 +97,12 @@ module _ (classes : List ClassEntry) (repeating : ℕ → ℕ) (params base : �
       statement_code (e.ForOf fixed (Local i) list a) at next out again =
           (let turn = at + size list + 1 + 1 + 1 in
           code classes repeating params base list 0 at (at + size list)
-          ++ (set_op params (base + 0)
-          (Local (suc i)) ∷ (Const (base + 0) (pos 0) ∷ (set_op params (base + 0) (Local (suc (suc i)))
+          ++ (set_op params (base + 0) (Local (suc i))
+          ∷ (Const (base + 0) (pos 0) ∷ (set_op params (base + 0) (Local (suc (suc i)))
           ∷ (item_code i turn next
           ++ (statement_code a (turn + item_size) turn next turn
           ++ Jump turn ∷ []))))))
-      statement_code (e.ForOf fixed (Param i) list a) at next out again = Jump next ∷ []
-      statement_code (e.ForOf fixed (Global g) list a) at next out again = Jump next ∷ []
+      statement_code (e.ForOf fixed x list a) at next out again = Jump next ∷ []
       statement_code (e.Return None) at next out again = bare_code maker base
       statement_code (e.Return (Some a)) at next out again =
           code classes repeating params base a 0 at (at + size a) ++ return_code maker base

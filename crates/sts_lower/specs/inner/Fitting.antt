@@ -25,11 +25,6 @@ module _ (params : ℕ) where
 
   abbrev mutual
     pub IsLowerable : TypedTree → Type 0
-    IsLowerable (e.Num u n) = Unit {0}
-    IsLowerable (e.Text u n) = Unit {0}
-    IsLowerable (e.Truth u b) = Unit {0}
-    IsLowerable (e.Null u) = Unit {0}
-    IsLowerable (e.This u) = Unit {0}
     IsLowerable (e.Name u x) = LocalFits x
     IsLowerable (e.Unary u op a) = IsLowerable a
     IsLowerable (e.Binary u op a b) = IsLowerable a × IsLowerable b
@@ -45,7 +40,7 @@ module _ (params : ℕ) where
     IsLowerable (e.SuperCall u f args) = AreLowerable args
     IsLowerable (e.Make u class args) = AreLowerable args
     IsLowerable (e.Items u items) = AreLowerable items
-    IsLowerable (e.Handler u f) = Unit {0}
+    IsLowerable _ = Unit {0}
 
     pub AreLowerable : TypedTrees → Type 0
     AreLowerable e.none = Unit {0}
@@ -55,24 +50,7 @@ module _ (params : ℕ) where
     IsTarget (e.Name u x) = LocalFits x
     IsTarget (e.Field u a f) = IsLowerable a
     IsTarget (e.Item u a i) = IsLowerable a × IsLowerable i
-    IsTarget (e.Num u n) = ⊥
-    IsTarget (e.Text u n) = ⊥
-    IsTarget (e.Truth u b) = ⊥
-    IsTarget (e.Null u) = ⊥
-    IsTarget (e.This u) = ⊥
-    IsTarget (e.Unary u op a) = ⊥
-    IsTarget (e.Binary u op a b) = ⊥
-    IsTarget (e.Both u a b) = ⊥
-    IsTarget (e.Either u a b) = ⊥
-    IsTarget (e.Choice u test a b) = ⊥
-    IsTarget (e.Set u op x r) = ⊥
-    IsTarget (e.Bump u x by late) = ⊥
-    IsTarget (e.Length u a) = ⊥
-    IsTarget (e.Call u f args) = ⊥
-    IsTarget (e.SuperCall u f args) = ⊥
-    IsTarget (e.Make u class args) = ⊥
-    IsTarget (e.Items u items) = ⊥
-    IsTarget (e.Handler u f) = ⊥
+    IsTarget _ = ⊥
 
   abbrev pub IsLowerableIfAny : Option TypedTree → Type 0
   IsLowerableIfAny None = Unit {0}

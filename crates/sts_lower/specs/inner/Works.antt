@@ -49,10 +49,7 @@ places_in Repeats = []
 
 abbrev pub places_of : Callee → List ServicePlace
 places_of (c.Board call) = places_in (row_of call).action
-places_of (c.Function f) = []
-places_of (c.Slot s) = []
-places_of c.Push = []
-places_of c.Pop = []
+places_of _ = []
 
 -- how many arguments a call passes, with a service's own numbers
 abbrev pub passed_by : Callee → ℕ → ℕ
