@@ -1,6 +1,6 @@
 -- The routine's steps.
 use Rattle.std.proofs.Common.{zero, suc, ◌≡◌, ℕ, ◌+◌, ◌*◌, ◌/◌, ◌%◌, ◌^◌, ◌<◌, ◌≤◌, ◌==◌, List, [], ◌∷◌, Bool, true, false, refl, sym, ap, ◌∙◌, subst, arith, length, cond}
-use Rattle.std.specs.Prelude.{ℤ, pos, negsuc}
+use Rattle.std.specs.Prelude.{ℤ, pos, negsuc, not}
 use Rattle.std.specs.Int.{cast_unsigned, w32}
 use Rattle.thumb_code.specs.declared.instructions.Instr.{Instr}
 use Rattle.thumb_code.specs.declared.instructions.Instr.TheVariants.{SubImm8, AddImm8, BCond, Ldm, Stm, Bx}
@@ -94,10 +94,10 @@ bit_le true = omega arith
 bit_le false = omega arith
 
 pub cc_yes : (x y c : ℕ) → x + y + c < 2 ^ 32 → holds (sum_flags x y c) 3 ≡ true
-cc_yes x y c l = ap (λ q. cond q false true) (no_c_flag _ _ ((x + y + c) / 4294967296) _ (bit_le _) (omega arith))
+cc_yes x y c l = ap not (no_c_flag _ _ ((x + y + c) / 4294967296) _ (bit_le _) (omega arith))
 
 pub cc_no : (x y c : ℕ) → 2 ^ 32 ≤ x + y + c → x + y + c < 2 ^ 33 → holds (sum_flags x y c) 3 ≡ false
-cc_no x y c l m = ap (λ q. cond q false true) (c_flag _ _ ((x + y + c) / 4294967296) _ (bit_le _) (omega arith))
+cc_no x y c l m = ap not (c_flag _ _ ((x + y + c) / 4294967296) _ (bit_le _) (omega arith))
 
 pub cs_no : (x y c : ℕ) → x + y + c < 2 ^ 32 → holds (sum_flags x y c) 2 ≡ false
 cs_no x y c l = no_c_flag _ _ ((x + y + c) / 4294967296) _ (bit_le _) (omega arith)

@@ -1,6 +1,7 @@
 // How many functions stand in a tree, where 32 bits count them: behind the last number there is none.
 ghost use Rattle.std.specs.Prelude.{◌≡◌, ◌+◌, ◌-◌, ◌^◌, ◌<◌, min};
-ghost use Rattle.sts_syntax.specs.Views.{tree, trees, routine, optional_expression, statement, statements, declaration, declarations};
+ghost use Rattle.std.specs.Option.{option_map};
+ghost use Rattle.sts_syntax.specs.Views.{tree, trees, routine, optional_expression, optional_written, statement, statements, declaration, declarations};
 ghost use Rattle.sts_scope.specs.Handlers as h;
 
 use sts_syntax::{Binding, Body, Expr, Form, Node, Stmt};
@@ -74,18 +75,26 @@ fn statement_count(s: &Stmt, from: u32) -> u32
         Form::If(test, a, Some(b)) => statement_count(b, statement_count(a, handlers(test, from))),
         Form::While(test, a) => statement_count(a, handlers(test, from)),
         Form::DoWhile(a, test) => handlers(test, statement_count(a, from)),
-        Form::For(None, test, step, a) => {
-            let count = optional_handlers(test, from);
-            statement_count(a, optional_handlers(step, count))
-        }
-        Form::For(Some(first), test, step, a) => {
-            let count = optional_handlers(test, statement_count(first, from));
+        Form::For(first, test, step, a) => {
+            let count = optional_handlers(test, first_count(first, from));
             statement_count(a, optional_handlers(step, count))
         }
         Form::ForOf { list, body, .. } => statement_count(body, handlers(list, from)),
         Form::Return(value) => optional_handlers(value, from),
         Form::Plain(e) => handlers(e, from),
         Form::Break | Form::Continue | Form::Empty => from,
+    }
+}
+
+/// The functions in the statement that a `for` begins with, where there is one.
+#[cycle(handlers)]
+fn first_count(first: &Option<Box<Stmt>>, from: u32) -> u32
+    ensures { result
+        ≡ min (from + h.first_handlers (optional_written (option_map (λ b. b.value) first.now))) (2 ^ 32 - 1) }
+{
+    match first {
+        None => from,
+        Some(first) => statement_count(first, from),
     }
 }
 

@@ -3,10 +3,10 @@ use Rattle.sts_syntax.specs.declared.trees.Expr.{Expr}
 use Rattle.sts_syntax.specs.declared.trees.Stmt.{Stmt}
 use Rattle.sts_syntax.specs.declared.trees.Binding.{Binding}
 use Rattle.sts_syntax.specs.declared.trees.Body.{Body, out-Body}
-use Rattle.sts_syntax.specs.Views.{tree, trees, statements, declarations}
+use Rattle.sts_syntax.specs.Views.{tree, trees, statement, statements, declarations}
 use Rattle.sts_syntax.proofs.Laws.{routine_parts}
 use Rattle.sts_scope.specs.Handlers as h
-use Rattle.typed_numbers.proofs.Listed.{call_is, super_call_is, make_is, items_is, handler_is, block_is, let_is}
+use Rattle.typed_numbers.proofs.Listed.{call_is, super_call_is, make_is, items_is, handler_is, block_is, let_is, for_parts}
 use Rattle.typed_numbers.proofs.handler_counts.+handlers.Goals as goal
 
 pub handlers-returns-in-Call : goal.handlers-returns-in-Call
@@ -53,3 +53,10 @@ statement_count-returns-in-Let t c =
     let e = ap h.statement_handlers (let_is c.args.s.now c.in-Let.fixed c.in-Let.each c.in-Let.is) in
     let a = ap (λ (xs : List Binding). h.declarations_handlers (declarations xs)) c.as_slice-in-Let.ensures in
     omega (arith, e, a, c.declarations_handlers.ensures)
+
+pub statement_count-returns-in-For : goal.statement_count-returns-in-For
+statement_count-returns-in-For t c =
+    let v = c.in-For in
+    let e = for_parts c.args.s.now v.first v.test v.step v.a v.is in
+    let d = ap (λ (x : Stmt). h.statement_handlers (statement x)) c.deref-in-For.ensures in
+    omega (arith, e, d, c.first_count.ensures, c.optional_handlers-count.ensures, c.optional_handlers.ensures, c.statement_count-in-For.ensures)
