@@ -6,6 +6,7 @@ use Rattle.thumb_code.specs.Arithmetic.{bit_of, inverted, sum_of, sum_flags, shi
 use Rattle.thumb_code.specs.Conditions.{holds}
 use Rattle.bank_model.specs.Division.{quotient, remainder}
 use Rattle.sts_syntax.specs.declared.operators.TheConstants.{NEGATE, PLUS, NOT, COMPLEMENT, BIT_OR, BIT_XOR, BIT_AND, EQUAL, UNEQUAL, LESS, GREATER, AT_MOST, AT_LEAST, SHIFT_LEFT, SHIFT_RIGHT, SHIFT_RIGHT_UNSIGNED, ADD, SUBTRACT, MULTIPLY, DIVIDE}
+use Rattle.flat_ir.specs.declared.operators.TheConstants.{INCREMENT}
 
 -- 1 where a condition holds behind a comparison of two words, and else 0
 abbrev pub compared : ℕ → ℕ → ℕ → ℕ
@@ -44,5 +45,5 @@ prefix_word op v =
     else if op == PLUS then v
     else if op == NOT then compared 0 v 0
     else if op == COMPLEMENT then inverted v
-    else if op == 5 then sum_of v 1 0
+    else if op == INCREMENT then sum_of v 1 0
     else sum_of v (inverted 1) 1

@@ -1,6 +1,8 @@
 -- What the ops of a tree cost at most for its weight, by any measure of ops.
 use Rattle.std.specs.Prelude.{ℕ, suc, ◌+◌, ◌*◌, ◌≤◌, ℤ, List, [], ◌∷◌}
 use Rattle.board_services.specs.declared.numbers.TheConstants.{SPAWN, PUSH}
+use Rattle.sts_syntax.specs.declared.operators.TheConstants.{LESS}
+use Rattle.flat_ir.specs.declared.operators.TheConstants.{INCREMENT}
 use Rattle.flat_ir.specs.declared.ops.Op.{Op}
 use Rattle.flat_ir.specs.declared.ops.Op.TheVariants.{Const, Copy, Unary, Binary, GlobalGet, GlobalSet, FieldGet, FieldSet, ItemGet, ItemSet, Length, Pop, TextOf, MakeObject, MakeArray, Call, CallSlot, HandlerOf, Ask, Jump, Branch, Return}
 use Rattle.sts_lower.specs.Code.{span}
@@ -50,8 +52,8 @@ pub record Costs (c : Op → ℕ) (k room : ℕ) : Type 0 where
   pub declared_global : (to : ℕ) (n : ℤ) (slot from : ℕ) → c (Const to n) + c (GlobalSet slot from) ≤ k
   pub loop : (list next operand at out item back : ℕ) (n : ℤ)
       → c (Copy list operand) + c (Const operand n) + c (Copy next operand) + c (Length operand list)
-      + c (Binary operand 6 next operand) + c (Branch operand at) + c (Jump out)
-      + c (ItemGet item list next) + c (Unary next 5 next) + c (Jump back) ≤ 4 * k
+      + c (Binary operand LESS next operand) + c (Branch operand at) + c (Jump out)
+      + c (ItemGet item list next) + c (Unary next INCREMENT next) + c (Jump back) ≤ 4 * k
   pub gives : (from : ℕ) → c (Return from) ≤ k
   pub gives_number : (to : ℕ) (n : ℤ) (from : ℕ) → c (Const to n) + c (Return from) ≤ k
   pub gives_object : (to from from' : ℕ) → c (Copy to from) + c (Return from') ≤ k

@@ -1,5 +1,6 @@
 -- The flat code of a game, written by hand from its source: a paddle that two buttons move, and drops that fall on it.
 use Rattle.std.specs.Prelude.{ℕ, pos, true, List, [], ◌∷◌, ◌++◌, Some, None}
+use Rattle.sts_syntax.specs.declared.operators.TheConstants.{NEGATE}
 use Rattle.flat_ir.specs.declared.ops.Op.{Op}
 use Rattle.flat_ir.specs.declared.ops.Op.TheVariants.{Const, Copy, Unary, Binary, GlobalGet, GlobalSet, FieldGet, FieldSet, ItemGet, MakeObject, MakeArray, Call, CallSlot, HandlerOf, Ask, Jump, Branch, Return}
 use Rattle.flat_ir.specs.declared.ops.Function.{Function}
@@ -40,7 +41,7 @@ paddle = global (t.Object 0) 0
 
 -- paddle.move(-1) and paddle.move(1)
 abbrev pub moves_left : TypedRoutine
-moves_left = plain (does (send t.Nothing 0 (paddle ∷ (e.Unary t.Number 1 (num 1) ∷ []))) ∷ [])
+moves_left = plain (does (send t.Nothing 0 (paddle ∷ (e.Unary t.Number NEGATE (num 1) ∷ []))) ∷ [])
 
 abbrev pub moves_right : TypedRoutine
 moves_right = plain (does (send t.Nothing 0 (paddle ∷ (num 1 ∷ []))) ∷ [])

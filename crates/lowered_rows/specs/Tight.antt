@@ -1,5 +1,6 @@
 -- Trees whose code is large for their weight, or deep.
 use Rattle.std.specs.Prelude.{ℕ, zero, suc, false, true, List, [], ◌∷◌, Some, length}
+use Rattle.sts_syntax.specs.declared.operators.TheConstants.{NOT, ADD}
 use Rattle.sts_syntax.specs.declared.typed.Spot.TheVariants.{Local}
 use Rattle.sts_syntax.specs.Types as t
 use Rattle.sts_syntax.specs.TypedTrees as e
@@ -21,7 +22,7 @@ seven_arguments = e.Make (t.Object 0) 0 (args (num 1 ∷ (num 2 ∷ (num 3 ∷ (
 
 -- a[i] += 1
 abbrev pub added_to_an_item : TypedTree
-added_to_an_item = e.Set t.Number (Some 13) (e.Item t.Number (local (t.ListOf t.Number) 0) (local t.Number 1)) (num 1)
+added_to_an_item = e.Set t.Number (Some ADD) (e.Item t.Number (local (t.ListOf t.Number) 0) (local t.Number 1)) (num 1)
 
 -- for (let x of a) { }
 abbrev pub empty_turns : TypedStatement
@@ -30,7 +31,7 @@ empty_turns = e.ForOf false (Local 0) (local (t.ListOf t.Number) 3) (e.Block e.d
 -- !!..!true
 abbrev pub negated : ℕ → TypedTree
 negated zero = e.Truth t.Boolean true
-negated (suc n) = e.Unary t.Boolean 3 (negated n)
+negated (suc n) = e.Unary t.Boolean NOT (negated n)
 
 -- if (true) if (true) .. ;
 abbrev pub nested : ℕ → TypedStatement

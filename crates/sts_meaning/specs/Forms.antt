@@ -1,5 +1,6 @@
 -- Short forms of typed trees.
 use Rattle.std.specs.Prelude.{ℕ, zero, suc, pos, negsuc, false, List, [], ◌∷◌, Option, Some}
+use Rattle.sts_syntax.specs.declared.operators.TheConstants.{EQUAL, LESS}
 use Rattle.sts_syntax.specs.declared.typed.Spot.TheVariants.{Param, Local, Global}
 use Rattle.sts_syntax.specs.declared.typed.Callee.TheVariants as c
 use Rattle.sts_syntax.specs.declared.board_calls.BoardCall.{BoardCall}
@@ -38,10 +39,10 @@ abbrev pub binary : ℕ → TypedTree → TypedTree → TypedTree
 binary op a b = e.Binary t.Number op a b
 
 abbrev pub less : TypedTree → TypedTree → TypedTree
-less a b = e.Binary t.Boolean 6 a b
+less a b = e.Binary t.Boolean LESS a b
 
 abbrev pub equal : TypedTree → TypedTree → TypedTree
-equal a b = e.Binary t.Boolean 4 a b
+equal a b = e.Binary t.Boolean EQUAL a b
 
 abbrev pub board : BoardCall → List TypedTree → TypedTree
 board call these = e.Call (row_of call).gives (c.Board call) (args these)

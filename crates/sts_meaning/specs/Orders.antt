@@ -1,5 +1,6 @@
 -- Programs that tell the order in which things are done. In each, `tell(n)` writes n and gives it.
 use Rattle.std.specs.Prelude.{ℕ, pos, negsuc, Bool, true, false, List, [], ◌∷◌, Some, None}
+use Rattle.sts_syntax.specs.declared.operators.TheConstants.{SHIFT_LEFT, SHIFT_RIGHT, SHIFT_RIGHT_UNSIGNED, ADD, SUBTRACT, MULTIPLY, DIVIDE}
 use Rattle.sts_syntax.specs.declared.typed.Spot.TheVariants.{Local}
 use Rattle.sts_syntax.specs.declared.typed.Callee.TheVariants as c
 use Rattle.sts_syntax.specs.Types as t
@@ -27,7 +28,7 @@ abbrev pub sets : TypedTree → TypedTree → TypedStatement
 sets x r = does (e.Set t.Number None x r)
 
 abbrev pub adds : TypedTree → TypedTree → TypedStatement
-adds x r = does (e.Set t.Number (Some 13) x r)
+adds x r = does (e.Set t.Number (Some ADD) x r)
 
 -- xs[5] = tell(7): the index is tested at the store
 abbrev pub item_set_past_the_end : TypedProgram
@@ -86,13 +87,13 @@ field_added_through_null = with_null (adds x_of_p (tell 1 7) ∷ [])
 abbrev pub get : TypedRoutine
 get =
     function (t.Object 0 ∷ t.Number ∷ []) [] t.Number
-    (returns (binary 13 (e.Field t.Number (e.This (t.Object 0)) 0) (param t.Number 1)) ∷ [])
+    (returns (binary ADD (e.Field t.Number (e.This (t.Object 0)) 0) (param t.Number 1)) ∷ [])
 
 -- get(n) { return super.get(n) * 10 }, of Q
 abbrev pub scaled_get : TypedRoutine
 scaled_get =
     function (t.Object 1 ∷ t.Number ∷ []) [] t.Number
-    (returns (binary 15 (e.SuperCall t.Number 2 (args (param t.Number 1 ∷ []))) (num 10)) ∷ [])
+    (returns (binary MULTIPLY (e.SuperCall t.Number 2 (args (param t.Number 1 ∷ []))) (num 10)) ∷ [])
 
 abbrev pub make_scaled : TypedRoutine
 make_scaled = function (t.Object 1 ∷ []) [] (t.Object 1) (does (e.SuperCall (t.Object 0) 0 e.none) ∷ [])
@@ -147,7 +148,7 @@ steps_of_a_name =
     (let i = local t.Number 0 in
     simple (function [] (t.Number ∷ []) t.Nothing
     (let_local 0 (num 5) ∷ says (e.Bump t.Number i (pos 1) true) ∷ says i ∷ says (e.Bump t.Number i (negsuc 0) false)
-    ∷ says (e.Set t.Number (Some 14) i (num 3))
+    ∷ says (e.Set t.Number (Some SUBTRACT) i (num 3))
     ∷ e.DoWhile (does (e.Bump t.Number i (pos 1) true)) (less i (num 4)) ∷ says i ∷ []) ∷ []))
 
 -- a function that runs off its end gives 0, and a name that is not set yet is 0
@@ -159,9 +160,9 @@ unset =
 -- serial.writeNumber(-1 >>> 28); serial.writeNumber(-9 >> 1); serial.writeNumber(1 << 33); serial.writeNumber(2147483647 + 1); serial.writeNumber(65536 * 65536 + -7 / 2)
 abbrev pub numbers_of_32_bits : TypedProgram
 numbers_of_32_bits =
-    simple (plain (says (binary 12 (minus 0) (num 28)) ∷ says (binary 11 (minus 8) (num 1))
-    ∷ says (binary 10 (num 1) (num 33)) ∷ says (binary 13 (num 2147483647) (num 1))
-    ∷ says (binary 13 (binary 15 (num 65536) (num 65536)) (binary 16 (minus 6) (num 2))) ∷ []) ∷ [])
+    simple (plain (says (binary SHIFT_RIGHT_UNSIGNED (minus 0) (num 28)) ∷ says (binary SHIFT_RIGHT (minus 8) (num 1))
+    ∷ says (binary SHIFT_LEFT (num 1) (num 33)) ∷ says (binary ADD (num 2147483647) (num 1))
+    ∷ says (binary ADD (binary MULTIPLY (num 65536) (num 65536)) (binary DIVIDE (minus 6) (num 2))) ∷ []) ∷ [])
 
 -- for (let i = 0; i < 2; i++) { let x: number; serial.writeNumber(x); x = 7 }: x is 0 each time
 abbrev pub set_each_time : TypedProgram

@@ -1,5 +1,6 @@
 -- Small programs whose transcripts are known. Each has its text before it.
 use Rattle.std.specs.Prelude.{ℕ, pos, true, false, List, [], ◌∷◌, ◌++◌, Some, None}
+use Rattle.sts_syntax.specs.declared.operators.TheConstants.{NEGATE, NOT, UNEQUAL, AT_MOST, ADD, MULTIPLY, DIVIDE, REMAINDER}
 use Rattle.sts_syntax.specs.declared.typed.Spot.TheVariants.{Local}
 use Rattle.sts_syntax.specs.declared.typed.Callee.TheVariants as c
 use Rattle.sts_syntax.specs.declared.board_calls.BoardCall.TheVariants as b
@@ -40,7 +41,7 @@ counted n P = (let end = after n P 1000 [] in transcript_of end ++ stats_of end)
 -- serial.writeNumber(7 / 0); serial.writeNumber(-7 % 2)
 abbrev pub division : TypedProgram
 division =
-    simple (plain (says (binary 16 (num 7) (num 0)) ∷ says (binary 17 (e.Unary t.Number 1 (num 7)) (num 2)) ∷ []) ∷ [])
+    simple (plain (says (binary DIVIDE (num 7) (num 0)) ∷ says (binary REMAINDER (e.Unary t.Number NEGATE (num 7)) (num 2)) ∷ []) ∷ [])
 
 -- basic.forever(function () { led.toggle(0, 0) })
 abbrev pub blinking : TypedProgram
@@ -52,21 +53,21 @@ blinking =
 abbrev pub deep : TypedRoutine
 deep =
     function (t.Number ∷ []) (t.Number ∷ []) t.Number
-    (let_local 0 (binary 15 (param t.Number 0) (num 3)) ∷ pauses 5 ∷ returns (local t.Number 0) ∷ [])
+    (let_local 0 (binary MULTIPLY (param t.Number 0) (num 3)) ∷ pauses 5 ∷ returns (local t.Number 0) ∷ [])
 
 -- function mid(n: number): number { let m = n + 1; let r = deep(m); return m * 100 + r }
 abbrev pub mid : TypedRoutine
 mid =
     function (t.Number ∷ []) (t.Number ∷ t.Number ∷ []) t.Number
-    (let_local 0 (binary 13 (param t.Number 0) (num 1)) ∷ let_local 1 (call t.Number 0 (local t.Number 0 ∷ []))
-    ∷ returns (binary 13 (binary 15 (local t.Number 0) (num 100)) (local t.Number 1)) ∷ [])
+    (let_local 0 (binary ADD (param t.Number 0) (num 1)) ∷ let_local 1 (call t.Number 0 (local t.Number 0 ∷ []))
+    ∷ returns (binary ADD (binary MULTIPLY (local t.Number 0) (num 100)) (local t.Number 1)) ∷ [])
 
 -- let a = 11; let b = 22; let c = 33; let d = 44; serial.writeNumber(a + b + c + d)
 abbrev pub four_names : TypedRoutine
 four_names =
     function [] (t.Number ∷ t.Number ∷ t.Number ∷ t.Number ∷ []) t.Nothing
     (let_local 0 (num 11) ∷ let_local 1 (num 22) ∷ let_local 2 (num 33) ∷ let_local 3 (num 44)
-    ∷ says (binary 13 (binary 13 (binary 13 (local t.Number 0) (local t.Number 1)) (local t.Number 2))
+    ∷ says (binary ADD (binary ADD (binary ADD (local t.Number 0) (local t.Number 1)) (local t.Number 2))
     (local t.Number 3)) ∷ [])
 
 abbrev pub listens : ℕ → ℕ → ℕ → TypedStatement
@@ -94,7 +95,7 @@ two_handlers =
 abbrev pub endless : ℕ → TypedProgram
 endless n =
     simple (function (t.Number ∷ []) [] t.Nothing
-    (says (param t.Number 0) ∷ does (call t.Nothing 0 (binary 13 (param t.Number 0) (num 1) ∷ [])) ∷ [])
+    (says (param t.Number 0) ∷ does (call t.Nothing 0 (binary ADD (param t.Number 0) (num 1) ∷ [])) ∷ [])
     ∷ plain (does (call t.Nothing 0 (num n ∷ [])) ∷ []) ∷ [])
 
 -- function w(): void { control.waitForEvent(60, 1) }; for (let i = 0; i < n; i++) { control.inBackground(w) }
@@ -150,7 +151,7 @@ busy mode n =
     simple (plain (pauses 5 ∷ says (board b.EventValue []) ∷ [])
     ∷ function [] (t.Number ∷ []) t.Nothing
     (does (board b.OnEventFlags (num 50 ∷ num 0 ∷ handler 0 ∷ num mode ∷ []))
-    ∷ e.For (e.written (let_local 0 (num 1))) (Some (e.Binary t.Boolean 8 (local t.Number 0) (num n)))
+    ∷ e.For (e.written (let_local 0 (num 1))) (Some (e.Binary t.Boolean AT_MOST (local t.Number 0) (num n)))
     (Some (e.Bump t.Number (local t.Number 0) (pos 1) true))
     (does (board b.RaiseEvent (num 50 ∷ local t.Number 0 ∷ []))) ∷ []) ∷ [])
 
@@ -202,7 +203,7 @@ abbrev pub texts : TypedProgram
 texts =
     program [] (t.Text ∷ [])
     (plain (does (board b.WriteString (text 0 ∷ [])) ∷ e.IfOnly (equal (text 0) (text 1)) (says (num 1))
-    ∷ e.IfOnly (e.Binary t.Boolean 5 (text 0) (e.Null t.NullType)) (says (num 2))
+    ∷ e.IfOnly (e.Binary t.Boolean UNEQUAL (text 0) (e.Null t.NullType)) (says (num 2))
     ∷ does (board b.WriteString (global t.Text 0 ∷ [])) ∷ []) ∷ [])
 
 -- control.onEvent(9, 0, function () { serial.writeNumber(input.runningTime()) }); basic.clearScreen(); led.plot(1, 0); led.unplot(1, 0)
@@ -212,7 +213,7 @@ questions =
     simple (plain (says (board b.RunningTime []) ∷ [])
     ∷ plain (listens 9 0 0 ∷ does (board b.ClearScreen []) ∷ does (board b.Plot (num 1 ∷ num 0 ∷ []))
     ∷ does (board b.Unplot (num 1 ∷ num 0 ∷ []))
-    ∷ pauses 7 ∷ raises 9 5 ∷ pauses 1 ∷ e.IfOnly (e.Unary t.Boolean 3 (board b.ButtonIsPressed (num 1 ∷ [])))
+    ∷ pauses 7 ∷ raises 9 5 ∷ pauses 1 ∷ e.IfOnly (e.Unary t.Boolean NOT (board b.ButtonIsPressed (num 1 ∷ [])))
     (does (board b.Panic (num 300 ∷ []))) ∷ []) ∷ [])
 
 -- input.onButtonPressed(1, function () { serial.writeNumber(1) })
@@ -228,7 +229,7 @@ big_worker =
     (e.For (e.written (let_local 0 (num 0))) (Some (less (local t.Number 0) (num 10)))
     (Some (e.Bump t.Number (local t.Number 0) (pos 1) true))
     (e.Block (e.also (does (e.Set t.Number None x (call t.Number 1 (x ∷ [])))) (e.also (pauses 1) e.done)))
-    ∷ does (e.Set t.Number (Some 13) done (num 1)) ∷ e.IfOnly (equal done (num 5))
+    ∷ does (e.Set t.Number (Some ADD) done (num 1)) ∷ e.IfOnly (equal done (num 5))
     (e.Block (e.also (says x) e.done)) ∷ []) ∷ []))
 
 -- `blinking`, behind seven functions of a library

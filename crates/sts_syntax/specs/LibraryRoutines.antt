@@ -1,5 +1,6 @@
 -- The library: what names and types make of its functions. They are the first ones of each program, in this order.
 use Rattle.std.specs.Prelude.{ℕ, pos, false, Some, None, List, [], ◌∷◌}
+use Rattle.sts_syntax.specs.declared.operators.TheConstants.{LESS, AT_LEAST, ADD, SUBTRACT}
 use Rattle.sts_syntax.specs.declared.board_calls.BoardCall.{BoardCall}
 use Rattle.sts_syntax.specs.declared.board_calls.BoardCall.TheVariants.{Pause, WriteString, Show, NumberGlyph, TextGlyph}
 use Rattle.sts_syntax.specs.declared.typed.Callee.TheVariants as c
@@ -41,11 +42,11 @@ show_glyphs glyph type =
     let g = Name t.Number (Local 1) in
     let glyph_at = λ (index : TypedTree). Call t.Number (c.Board glyph) (two_of (Name type (Param 0)) index) in
     let turn =
-    also (asks Show g) (also (asks Pause (number 400)) (also (Plain (Set t.Number (Some 13) i (number 1)))
+    also (asks Show g) (also (asks Pause (number 400)) (also (Plain (Set t.Number (Some ADD) i (number 1)))
     (also (Plain (Set t.Number None g (glyph_at i))) done))) in
     routine (type ∷ []) (t.Number ∷ t.Number ∷ []) t.Nothing
     (also (one_local 0 (number 0))
-    (also (one_local 1 (glyph_at (number 0))) (also (While (Binary t.Boolean 9 g (number 0)) (Block turn)) done)))
+    (also (one_local 1 (glyph_at (number 0))) (also (While (Binary t.Boolean AT_LEAST g (number 0)) (Block turn)) done)))
 
 -- { serial.writeString(s); serial.writeString("\r\n") }, where the text of a line end has this number
 abbrev pub write_line : ℕ → TypedRoutine
@@ -62,7 +63,7 @@ chooses params test first second =
 abbrev pub absolute : TypedRoutine
 absolute =
     let n = Name t.Number (Param 0) in
-    chooses (t.Number ∷ []) (Binary t.Boolean 6 n (number 0)) (Binary t.Number 14 (number 0) n) n
+    chooses (t.Number ∷ []) (Binary t.Boolean LESS n (number 0)) (Binary t.Number SUBTRACT (number 0) n) n
 
 -- { return a < b ? a : b }, and with another operator
 abbrev pub one_of_two : ℕ → TypedRoutine

@@ -4,6 +4,7 @@ ghost use Rattle.thumb_code.specs.declared.instructions.Instr.{Instr};
 ghost use Rattle.thumb_code.specs.declared.instructions.Instr.TheVariants as i;
 ghost use Rattle.flat_ir.specs.declared.ops.Op.TheVariants as o;
 ghost use Rattle.flat_ir.specs.WellFormed.{temporaries};
+ghost use Rattle.sts_syntax.specs.declared.operators.TheConstants.{BIT_OR, BIT_XOR, BIT_AND, SHIFT_LEFT, SHIFT_RIGHT, SHIFT_RIGHT_UNSIGNED, MULTIPLY};
 ghost use Rattle.thumb_emit.specs.Emit.{decides, beside, compares, combines, shifts, divides, unary, binary};
 ghost use Rattle.thumb_emit.specs.Ready.{IsReady, IsOpTold, pieces_of};
 
@@ -179,13 +180,13 @@ fn compare(
 /// An instruction whose target is its first operand: `|`, `^`, `&`, and else `*`.
 fn combine(out: &mut Seq<Piece>, placed: &Placed, r: Three, op: u8) -> Result<(), NoMemory>
     requires labels { 3 * length placed.now.function.ops + 1 < 2 ^ 32 }
-    ensures bit_or { op ≡ 1
+    ensures bit_or { op ≡ BIT_OR
         → OnOk result (out.new ≡ out.old ++ combines placed.now.function r.rd r.left r.right i.Orr) }
-    ensures bit_xor { op ≡ 2
+    ensures bit_xor { op ≡ BIT_XOR
         → OnOk result (out.new ≡ out.old ++ combines placed.now.function r.rd r.left r.right i.Eor) }
-    ensures bit_and { op ≡ 3
+    ensures bit_and { op ≡ BIT_AND
         → OnOk result (out.new ≡ out.old ++ combines placed.now.function r.rd r.left r.right i.And) }
-    ensures multiply { op ≡ 15
+    ensures multiply { op ≡ MULTIPLY
         → OnOk result (out.new ≡ out.old ++ combines placed.now.function r.rd r.left r.right i.Mul) }
 {
     let rdn = beside(2, r.rd, r.right);
@@ -209,11 +210,11 @@ fn combine(out: &mut Seq<Piece>, placed: &Placed, r: Three, op: u8) -> Result<()
 /// One register shifted by another modulo 32: `<<`, `>>`, and else `>>>`.
 fn shift(out: &mut Seq<Piece>, placed: &Placed, r: Three, op: u8) -> Result<(), NoMemory>
     requires labels { 3 * length placed.now.function.ops + 1 < 2 ^ 32 }
-    ensures left { op ≡ 10
+    ensures left { op ≡ SHIFT_LEFT
         → OnOk result (out.new ≡ out.old ++ shifts placed.now.function r.rd r.left r.right i.LslReg) }
-    ensures right { op ≡ 11
+    ensures right { op ≡ SHIFT_RIGHT
         → OnOk result (out.new ≡ out.old ++ shifts placed.now.function r.rd r.left r.right i.AsrReg) }
-    ensures unsigned { op ≡ 12
+    ensures unsigned { op ≡ SHIFT_RIGHT_UNSIGNED
         → OnOk result (out.new ≡ out.old ++ shifts placed.now.function r.rd r.left r.right i.LsrReg) }
 {
     let rdn = r.rd;

@@ -1,5 +1,6 @@
 -- Typed functions of worked programs, whose measures were counted by hand.
 use Rattle.std.specs.Prelude.{ℕ, ℤ, pos, true, false, Option, Some, None, [], ◌∷◌}
+use Rattle.sts_syntax.specs.declared.operators.TheConstants.{NEGATE, EQUAL, LESS, ADD, MULTIPLY}
 use Rattle.sts_syntax.specs.declared.board_calls.BoardCall.{BoardCall}
 use Rattle.sts_syntax.specs.declared.board_calls.BoardCall.TheVariants as b
 use Rattle.sts_syntax.specs.declared.typed.Callee.TheVariants as c
@@ -52,7 +53,7 @@ deep = record {
   params = t.Number ∷ [];
   locals = t.Number ∷ [];
   gives = t.Number;
-  all = also (declare (Local 0) (binary 15 (name (Param 0)) (number (pos 3))))
+  all = also (declare (Local 0) (binary MULTIPLY (name (Param 0)) (number (pos 3))))
       (also (ask b.Pause (one (number (pos 5)))) (also (Return (Some (name (Local 0)))) done));
 }
 
@@ -62,9 +63,9 @@ mid = record {
   params = t.Number ∷ [];
   locals = t.Number ∷ t.Number ∷ [];
   gives = t.Number;
-  all = also (declare (Local 0) (binary 13 (name (Param 0)) (number (pos 1))))
+  all = also (declare (Local 0) (binary ADD (name (Param 0)) (number (pos 1))))
       (also (declare (Local 1) (call 7 (one (name (Local 0)))))
-      (also (Return (Some (binary 13 (binary 15 (name (Local 0)) (number (pos 100))) (name (Local 1))))) done));
+      (also (Return (Some (binary ADD (binary MULTIPLY (name (Local 0)) (number (pos 100))) (name (Local 1))))) done));
 }
 
 -- `() => { serial.writeNumber(mid(6)) }`
@@ -79,7 +80,7 @@ counts_on = record {
   gives = t.Nothing;
   all =
       also (ask b.WriteNumber (one (name (Param 0))))
-      (also (run 7 (one (binary 13 (name (Param 0)) (number (pos 1))))) done);
+      (also (run 7 (one (binary ADD (name (Param 0)) (number (pos 1))))) done);
 }
 
 abbrev pub starts_at_one : TypedRoutine
@@ -97,12 +98,12 @@ worker_turn =
 
 abbrev pub worker_loop : TypedStatement
 worker_loop =
-    For (written (declare (Local 0) (number (pos 0)))) (Some (binary 6 (name (Local 0)) (number (pos 10))))
+    For (written (declare (Local 0) (number (pos 0)))) (Some (binary LESS (name (Local 0)) (number (pos 10))))
     (Some (increment (Local 0))) worker_turn
 
 abbrev pub worker_end : TypedStatement
 worker_end =
-    IfOnly (binary 4 (name (Global 1)) (number (pos 5))) (Block (also (ask b.WriteNumber (one (name (Global 0)))) done))
+    IfOnly (binary EQUAL (name (Global 1)) (number (pos 5))) (Block (also (ask b.WriteNumber (one (name (Global 0)))) done))
 
 abbrev pub worker : TypedRoutine
 worker = record {
@@ -119,7 +120,7 @@ makes_cells =
     let turn =
     also (declare (Local 0) (Make (t.Object 0) 0 none))
     (also (set (Some 13) made (number (pos 1)))
-    (also (IfOnly (binary 4 made (number (pos 1408))) (Block (also (ask b.WriteNumber (one made)) done))) done)) in
+    (also (IfOnly (binary EQUAL made (number (pos 1408))) (Block (also (ask b.WriteNumber (one made)) done))) done)) in
     record {
       params = [];
       locals = t.Object 0 ∷ [];
@@ -131,7 +132,7 @@ makes_cells =
 abbrev pub starts_waiters : TypedRoutine
 starts_waiters =
     let starts = Block (also (ask b.InBackground (one (Handler t.Nothing 7))) done) in
-    let loops = For (written (declare (Local 0) (number (pos 0)))) (Some (binary 6 (name (Local 0)) (number (pos 23))))
+    let loops = For (written (declare (Local 0) (number (pos 0)))) (Some (binary LESS (name (Local 0)) (number (pos 23))))
     (Some (increment (Local 0))) starts in
     let listens = ask b.OnEvent (more (number (pos 61)) (two (number (pos 1)) (Handler t.Nothing 8))) in
     let raises = ask b.RaiseEvent (two (number (pos 61)) (number (pos 1))) in
@@ -157,7 +158,7 @@ makes_paddle =
 abbrev pub moves_paddle : TypedRoutine
 moves_paddle =
     let x = paddle_x (This (t.Object 0)) in
-    let least = call 5 (two (number (pos 4)) (binary 13 x (name (Param 1)))) in
+    let least = call 5 (two (number (pos 4)) (binary ADD x (name (Param 1)))) in
     let there = set None x (call 6 (two (number (pos 0)) least)) in
     record {
       params = t.Object 0 ∷ t.Number ∷ [];
@@ -174,10 +175,10 @@ drop_falls =
     let score = name (Global 3) in
     let falls = Block (also (ask b.Plot (two column row))
     (also (ask b.Pause (one (number (pos 100)))) (also (ask b.Unplot (two column row)) done))) in
-    let loops = For (written (declare (Local 1) (number (pos 0)))) (Some (binary 6 row (number (pos 4))))
+    let loops = For (written (declare (Local 1) (number (pos 0)))) (Some (binary LESS row (number (pos 4))))
     (Some (increment (Local 1))) falls in
     let caught =
-    IfOnly (binary 4 (paddle_x (Name (t.Object 0) (Global 0))) column)
+    IfOnly (binary EQUAL (paddle_x (Name (t.Object 0) (Global 0))) column)
     (Block (also (set (Some 13) score (number (pos 1))) done)) in
     let whole =
     also (declare (Local 0) (Item t.Number (Name (t.ListOf t.Number) (Global 1)) turn))
@@ -186,12 +187,12 @@ drop_falls =
       params = [];
       locals = t.Number ∷ t.Number ∷ [];
       gives = t.Nothing;
-      all = also (IfOnly (binary 6 turn (number (pos 1))) (Block whole)) done;
+      all = also (IfOnly (binary LESS turn (number (pos 1))) (Block whole)) done;
     }
 
 abbrev pub button_moves : TypedRoutine
 button_moves =
-    let asked = Call t.Nothing (c.Slot 0) (two (Name (t.Object 0) (Global 0)) (Unary t.Number 1 (number (pos 1)))) in
+    let asked = Call t.Nothing (c.Slot 0) (two (Name (t.Object 0) (Global 0)) (Unary t.Number NEGATE (number (pos 1)))) in
     record { params = []; locals = []; gives = t.Nothing; all = also (Plain asked) done }
 
 abbrev pub game : TypedRoutine

@@ -1,5 +1,6 @@
 -- The tree of the library's text, over the text's tokens, which are counted from 0.
 use Rattle.std.specs.Prelude.{ℕ, ℤ, pos, ◌+◌, false, Some, None, List, [], ◌∷◌, slice_get}
+use Rattle.sts_syntax.specs.declared.operators.TheConstants.{ADD}
 use Rattle.sts_lexer.specs.declared.token.TokenKind.{TokenKind}
 use Rattle.sts_lexer.specs.declared.token.TokenKind.TheVariants as k
 use Rattle.sts_lexer.specs.declared.token.Token.{Token}
@@ -61,7 +62,7 @@ module _ (tokens : List Token) where
 
   -- `i += 1` and `g = $glyph(x, i)` from i on
   abbrev pub count : ℕ → Statement
-  count i = Plain (place i) (Set (place i) (Some 13) (name i) (number (i + 2) (pos 1)))
+  count i = Plain (place i) (Set (place i) (Some ADD) (name i) (number (i + 2) (pos 1)))
 
   abbrev pub next_glyph : ℕ → Statement
   next_glyph i = Plain (place i) (Set (place i) None (name i) (glyph (i + 2) (name (i + 6))))
