@@ -162,29 +162,33 @@ pub fn add_declared(
     add_entry(known, entry, kind)
 }
 
-/// Adds a function or method.
+/// The declaration of a function or method.
 #[tactic(auto, using(sts_syntax::proofs::Laws::routine_parts))]
-pub fn add_routine(
+pub fn routine_entry(
     alloc: Global,
     classes: &ByNumber,
-    known: &mut Known,
     owner: Owner,
     name: u32,
     sort: DeclarationKind,
     body: &Body,
-) -> Result<(), NoMemory>
-    ensures { OnOk result (Adds known.old known.new
-        (entry.routine_entry (value_at classes.now.values.items) owner name sort (routine body.now) ∷ [])
-        (entry.routine_gives (value_at classes.now.values.items) (routine body.now) ∷ []) []) }
+) -> Result<Entry, NoMemory>
+    ensures { IfOk result (λ r. r
+        ≡ entry.routine_entry (value_at classes.now.values.items) owner name sort (routine body.now)) }
 {
     let takes = parameter_kinds(alloc, classes, body.params.as_slice())?;
-    let kind = written_kind(classes, &body.gives);
-    let entry = Entry {
+    Ok(Entry {
         at: body.at,
         owner,
         name,
         sort,
         takes,
-    };
-    add_entry(known, entry, kind)
+    })
+}
+
+/// The result of a function or method, where it is written.
+#[tactic(auto, using(sts_syntax::proofs::Laws::routine_parts))]
+pub fn routine_gives(classes: &ByNumber, body: &Body) -> Option<StaticType>
+    ensures { result ≡ entry.routine_gives (value_at classes.now.values.items) (routine body.now) }
+{
+    written_kind(classes, &body.gives)
 }

@@ -7,7 +7,9 @@ ghost use Rattle.sts_scope.specs.Entries as entry;
 ghost use Rattle.sts_scope.specs.Adding.{Adds};
 ghost use Rattle.sts_scope.specs.Known.{IsDeclared};
 
-use crate::build::{add_declared, add_entry, add_routine, number_classes, parameter_kinds};
+use crate::build::{
+    add_declared, add_entry, number_classes, parameter_kinds, routine_entry, routine_gives,
+};
 use crate::by_number::ByNumber;
 use crate::{
     ClassHead, DeclarationKind, Entry, Environment, Known, Owner, StaticType, SymbolTable, Table,
@@ -82,15 +84,9 @@ fn add_member(
     match member {
         Member::Field(b) => add_declared(alloc, classes, known, owner, DeclarationKind::Field, b),
         Member::Method { name, body } => {
-            add_routine(
-                alloc,
-                classes,
-                known,
-                owner,
-                *name,
-                DeclarationKind::Method,
-                body,
-            )
+            let sort = DeclarationKind::Method;
+            let entry = routine_entry(alloc, classes, owner, *name, sort, body)?;
+            add_entry(known, entry, routine_gives(classes, body))
         }
         Member::Constructor(_) => Ok(()),
     }
@@ -207,15 +203,11 @@ fn add_item(
             add_entry(known, entry, None)?;
             add_members(alloc, classes, known, class, members.as_slice())
         }
-        Item::Function { name, body } => add_routine(
-            alloc,
-            classes,
-            known,
-            Owner::Whole,
-            *name,
-            DeclarationKind::Function,
-            body,
-        ),
+        Item::Function { name, body } => {
+            let sort = DeclarationKind::Function;
+            let entry = routine_entry(alloc, classes, Owner::Whole, *name, sort, body)?;
+            add_entry(known, entry, routine_gives(classes, body))
+        }
         Item::Stmt(s) => add_main(alloc, classes, known, s),
     }
 }
