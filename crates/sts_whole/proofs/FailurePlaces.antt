@@ -25,7 +25,7 @@ use Rattle.type_derive.specs.declared.roles.Role.{Role}
 use Rattle.type_derive.specs.declared.roles.Role.TheVariants.{Free, Given, Called, Served}
 use Rattle.type_derive.specs.Typing.{◌>>=◌, Callee, finds, constant_of, board_callee, callee_of, part_callee, super_method, made, type_of, types_of, are_given, role_of, behind}
 use Rattle.type_derive.specs.Returns.{bound, after, after_first, looped}
-use Rattle.type_derive.specs.Nodes.{is_called, is_served, serves_itself, shape_role, kind_role, fits, parameter_types_failure, handler_place, own_name, own_part, own_member, own_called, own_super, own_make, lacks_handler, own_board, own_local, own_bound, waives, is_list, failure, failures, handler_failure, initial_failure, optional_failure, test_failure, declaration_failure, declarations_failure, statement_failure, first_failure, statements_failure}
+use Rattle.type_derive.specs.Nodes.{is_called, is_served, serves_itself, kind_role, fits, parameter_types_failure, handler_place, own_name, own_part, own_member, own_called, own_super, own_make, lacks_handler, own_board, own_local, own_bound, waives, is_list, failure, failures, handler_failure, initial_failure, optional_failure, test_failure, declaration_failure, declarations_failure, statement_failure, first_failure, statements_failure}
 use Rattle.sts_whole.proofs.NodePlaces.{AnnotationAt, WrittenAt, ParametersAt, TreeAt, TreesAt, OptionAt, RoutineAt, DeclarationAt, DeclarationsAt, StatementAt, FirstAt, StatementsAt}
 
 -- A failure, if there is one, is at such a place.
@@ -221,7 +221,7 @@ module _ (P : ℕ → Type 0) (tables : Tables) (names : Naming) (k : Known) whe
 
     pub initial_in : (p : NameScope) (shape : Option Annotation) (first : OptionalTree) → OptionAt P first → In (initial_failure tables names k p shape first)
     initial_in p shape absent h = none_in
-    initial_in p shape (present e) h = if_in (waives tables names k shape e) None (bad p (shape_role shape) e) none_in (failure_in p (shape_role shape) e h)
+    initial_in p shape (present e) h = if_in (waives tables names k shape e) None (bad p (kind_role shape) e) none_in (failure_in p (kind_role shape) e h)
 
     optional_in : (p : NameScope) (e : OptionalTree) → OptionAt P e → In (optional_failure tables names k p e)
     optional_in p absent h = none_in

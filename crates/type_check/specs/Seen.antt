@@ -22,7 +22,7 @@ use Rattle.type_derive.specs.declared.roles.Role.{Role}
 use Rattle.type_derive.specs.declared.roles.Role.TheVariants.{Free}
 use Rattle.type_derive.specs.Typing.{Callee, callee, super_method, ◌>>=◌, type_of, role_of, behind, given_to, is_routine, is_drawing, are_given, board_kind}
 use Rattle.type_derive.specs.Shown.{goes_some}
-use Rattle.type_derive.specs.Nodes.{waives, shape_role}
+use Rattle.type_derive.specs.Nodes.{waives, kind_role}
 use Rattle.type_check.specs.declared.seen.Seen.{Seen}
 
 -- what stands behind no dot
@@ -85,7 +85,7 @@ module _ (tables : Tables) (names : Naming) (k : Known) where
   abbrev pub initial_kind : NameScope → Option Annotation → OptionalTree → Option StaticType
   initial_kind p shape absent = None
   initial_kind p shape (present e) =
-      if waives tables names k shape e then None else type_of tables k p (shape_role shape) e
+      if waives tables names k shape e then None else type_of tables k p (kind_role shape) e
 
 module _ (tables : Tables) (k : Known) where
   -- what is seen of a member, by the type of what stands before its dot

@@ -71,7 +71,7 @@ pub fn kind_role(kind: Option<StaticType>) -> Role
 
 /// A type that is written gives one to an initialiser.
 pub fn shape_role(shape: &Option<Shape>) -> Role
-    ensures { result ≡ node.shape_role (optional_annotation shape.now) }
+    ensures { result ≡ node.kind_role (optional_annotation shape.now) }
 {
     match shape {
         None => Role::Free,

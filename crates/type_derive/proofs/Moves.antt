@@ -1,6 +1,7 @@
 -- Blocks leave places as they found them, and statements only add locals.
 use Rattle.std.proofs.Common.{rules, ◌≡◌, ℕ, ◌+◌, ◌<◌, List, [], ◌∷◌, ◌++◌, length, get_or, take, drop, refl, sym, ap, ◌∙◌, append_assoc, append-nil}
 use Rattle.std.specs.Prelude.{Bool, ◌==◌}
+use Rattle.std.specs.Option.{option_or}
 use Rattle.sts_base.specs.declared.tables.Tables.{Tables}
 use Rattle.sts_syntax.specs.declared.trees.Expr.{Expr}
 use Rattle.sts_syntax.specs.declared.trees.Stmt.{Stmt}
@@ -11,7 +12,7 @@ use Rattle.sts_scope.specs.declared.known.Local.{Local}
 use Rattle.sts_scope.specs.Entries.{Naming}
 use Rattle.sts_scope.specs.Places.{NameScope, inner, with, local}
 use Rattle.type_derive.specs.Moves.{Extends, left}
-use Rattle.type_derive.specs.Returns.{is_alone, bound, all_declared, after, returned, all_returned, or_else}
+use Rattle.type_derive.specs.Returns.{is_alone, bound, all_declared, after, returned, all_returned}
 use Rattle.sts_scope.proofs.Laws.{drop_at}
 
 taken : {A : Type 0} (xs ys : List A) → take (length xs) (xs ++ ys) ≡ xs
@@ -61,7 +62,7 @@ extends_to p q r (xs, h) e = (xs, e ∙ h)
 
 -- a further statement of a list, which returns no value or one
 pub returned_step : (t : Tables) (f : Naming) (k : Known) (p : NameScope) (xs : List Stmt) (i : ℕ) (s : Stmt) → i < length xs → s ≡ get_or xs i s →
-    all_returned t f k p (statements (drop i xs)) ≡ or_else (returned t f k p (statement s)) (all_returned t f k (after t f k p (statement s)) (statements (drop (i + 1) xs)))
+    all_returned t f k p (statements (drop i xs)) ≡ option_or (returned t f k p (statement s)) (all_returned t f k (after t f k p (statement s)) (statements (drop (i + 1) xs)))
 returned_step t f k p xs i s lt is = ap (λ ys. all_returned t f k p (statements ys)) (drop_at xs i s lt is)
 
 pub alone_list : (at : ℕ) (xs : List Expr) → is_alone (Items at (trees xs)) ≡ (length xs == 0)

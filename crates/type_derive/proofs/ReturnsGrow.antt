@@ -1,6 +1,7 @@
 -- Where more types are known, no less is declared, returned and derived.
 use Rattle.std.proofs.Common.{◌≡◌, ℕ, zero, suc, refl, sym, subst, Bool, true, false, Option, Some, None, List, [], ◌∷◌, ◌++◌}
 use Rattle.std.specs.Prelude.{if◌then◌else◌, slice_get, nat_lt}
+use Rattle.std.specs.Option.{option_or}
 use Rattle.sts_base.specs.declared.tables.Tables.{Tables}
 use Rattle.sts_syntax.specs.Annotations.{Annotation}
 use Rattle.sts_syntax.specs.Trees.{Tree, OptionalTree, absent, present, Statement, Block, Let, IfOnly, IfElse, While, DoWhile, For, ForOf, Return, Break, Continue, Plain, Empty, Statements, done, also, OptionalStatement, omitted, written, Declaration, Declare, Declarations, ended, next}
@@ -13,7 +14,7 @@ use Rattle.sts_scope.specs.Places.{NameScope, with, inner, local, outside}
 use Rattle.sts_scope.specs.Rules.{kind_at}
 use Rattle.type_derive.specs.declared.roles.Role.TheVariants.{Free}
 use Rattle.type_derive.specs.Typing.{type_of}
-use Rattle.type_derive.specs.Returns.{is_alone, or_else, parameter_locals, within, bound, declared, all_declared, after, after_first, items_of, looped, returned, all_returned, answered}
+use Rattle.type_derive.specs.Returns.{is_alone, parameter_locals, within, bound, declared, all_declared, after, after_first, items_of, looped, returned, all_returned, answered}
 use Rattle.type_derive.specs.Derived.{Source, Stated, Initial, Returns, Less, Within, follows, rule, at}
 use Rattle.type_derive.specs.Growth.{LocalsGrow, KnownGrows, PlaceGrows, ReturnGrows}
 use Rattle.type_derive.proofs.Grows.{less_refl, grows, same_length}
@@ -43,7 +44,7 @@ with_grows p q x o u fixed h i = record {
 inner_grows : (p q : NameScope) → PlaceGrows p q → PlaceGrows (inner p) (inner q)
 inner_grows p q h = record { around = h.around; locals = h.locals; block = same_length p.locals q.locals h.locals; this = h.this; library = h.library }
 
-or_grows : (a b c d : Option (Option StaticType)) → ReturnGrows a b → ReturnGrows c d → ReturnGrows (or_else a c) (or_else b d)
+or_grows : (a b c d : Option (Option StaticType)) → ReturnGrows a b → ReturnGrows c d → ReturnGrows (option_or a c) (option_or b d)
 or_grows None None c d h i = i
 or_grows (Some a) (Some b) c d h i = h
 or_grows None (Some b) c d h i = absurd h

@@ -9,7 +9,7 @@ use Rattle.sts_scope.specs.declared.kinds.StaticType.{StaticType}
 use Rattle.sts_scope.specs.declared.known.Known.{Known}
 use Rattle.sts_scope.specs.Failures.{Failure, ◌then◌}
 use Rattle.sts_scope.specs.Scopes.{all_names, all_entries, all_classes, library_entries, library_classes, heading_refusal}
-use Rattle.type_derive.specs.Derived.{Source, sources_from, rule, IsLeast}
+use Rattle.type_derive.specs.Derived.{TypeTable, Source, sources_from, rule, IsLeast}
 use Rattle.type_derive.specs.Passes.{all_overrides, nodes_failure}
 use Rattle.type_derive.specs.Limits.{limits_failure}
 use Rattle.sts_scope.specs.Handlers.{all_routines}
@@ -18,7 +18,7 @@ use Rattle.sts_scope.specs.Numbers.{numbering}
 use Rattle.type_derive.specs.Programs.{items_made, library_made, class_entries, global_types}
 
 -- what is known of a library and a text, with this table of types
-abbrev pub known : Program → Program → List (Option StaticType) → Known
+abbrev pub known : Program → Program → TypeTable → Known
 known library text kinds = record {
   entries = all_entries library text;
   classes = all_classes library text;
@@ -30,12 +30,12 @@ abbrev pub all_sources : Program → Program → List Source
 all_sources library text = sources_from (all_names library text) 0 (library ++ text)
 
 -- how the type of each declaration follows from those of the others
-abbrev pub derivation : Tables → Program → Program → List (Option StaticType) → ℕ → Option StaticType
+abbrev pub derivation : Tables → Program → Program → TypeTable → ℕ → Option StaticType
 derivation tables library text kinds d =
     rule tables (all_names library text) (known library text kinds) (all_sources library text) kinds d
 
 -- the types of all declarations: the least table that follows its own rules
-pub record AreDerived (tables : Tables) (library text : Program) (kinds : List (Option StaticType)) : Type 0 where
+pub record AreDerived (tables : Tables) (library text : Program) (kinds : TypeTable) : Type 0 where
   pub each : length kinds ≡ length (all_entries library text)
   pub least : IsLeast (derivation tables library text) kinds
 
@@ -43,7 +43,7 @@ pub record AreDerived (tables : Tables) (library text : Program) (kinds : List (
 abbrev pub main_routine : Made e.TypedStatements → e.TypedRoutine
 main_routine made = record { params = []; locals = made.locals; gives = t.Nothing; all = made.it }
 
-abbrev pub typed : Tables → Program → Program → List (Option StaticType) → TypedProgram
+abbrev pub typed : Tables → Program → Program → TypeTable → TypedProgram
 typed tables library text kinds =
     let names = all_names library text in
     let k = known library text kinds in
@@ -59,7 +59,7 @@ typed tables library text kinds =
     }
 
 -- the first failure behind the headings
-abbrev pub type_refusal : Tables → Program → Program → List (Option StaticType) → Option Failure
+abbrev pub type_refusal : Tables → Program → Program → TypeTable → Option Failure
 type_refusal tables library text kinds =
     let names = all_names library text in
     let k = known library text kinds in
@@ -68,24 +68,24 @@ type_refusal tables library text kinds =
     then limits_failure tables.texts (typed tables library text kinds)
 
 -- the first failure of all passes
-abbrev pub refusal : Tables → Program → Program → List (Option StaticType) → Option Failure
+abbrev pub refusal : Tables → Program → Program → TypeTable → Option Failure
 refusal tables library text kinds =
     heading_refusal tables.names library text then type_refusal tables library text kinds
 
 -- a text is accepted, as this typed program
 abbrev pub IsAccepted : Tables → Program → Program → TypedProgram → Type 0
 IsAccepted tables library text p =
-    (kinds : List (Option StaticType)) × AreDerived tables library text kinds
+    (kinds : TypeTable) × AreDerived tables library text kinds
     × (refusal tables library text kinds ≡ None) × (p ≡ typed tables library text kinds)
 
 -- a text is refused, with this failure
 abbrev pub IsRefused : Tables → Program → Program → Failure → Type 0
 IsRefused tables library text f =
-    (kinds : List (Option StaticType)) × AreDerived tables library text kinds
+    (kinds : TypeTable) × AreDerived tables library text kinds
     × (refusal tables library text kinds ≡ Some f)
 
 -- each library and text have derived types
 abbrev pub DerivedTypesExist : Type 0
 DerivedTypesExist =
-    (tables : Tables) (library text : Program) → (kinds : List (Option StaticType))
+    (tables : Tables) (library text : Program) → (kinds : TypeTable)
     × AreDerived tables library text kinds

@@ -11,6 +11,10 @@ use Rattle.sts_scope.specs.Entries.{Naming, kind_of, classes_in}
 use Rattle.sts_scope.specs.Places.{outside}
 use Rattle.type_derive.specs.Returns.{bound, parameter_locals, within, all_returned, answered}
 
+-- the type of each declaration, where it is known
+abbrev pub TypeTable : Type 0
+TypeTable = List (Option StaticType)
+
 -- How the type of a declaration follows: it is known, or that of an initialiser, or that of the first value that is returned.
 pub data Source : Type 0 where
   Stated : (kind : Option StaticType) → Source
@@ -59,18 +63,18 @@ module _ (names : Naming) where
       (all_returned tables names k (within (parameter_locals names params) self None library) all)
 
 -- what a table has at a place
-abbrev pub at : List (Option StaticType) → ℕ → Option StaticType
+abbrev pub at : TypeTable → ℕ → Option StaticType
 at kinds d = get_or kinds d None
 
 -- what the rule of a declaration gives from a table
-abbrev pub rule : Tables → Naming → Known → List Source → List (Option StaticType) → ℕ → Option StaticType
+abbrev pub rule : Tables → Naming → Known → List Source → TypeTable → ℕ → Option StaticType
 rule tables names k sources kinds d = elim (slice_get sources d) [
   | None ↦ None
   | Some source ↦ follows names tables (record k { kinds = kinds }) (nat_lt d k.library) source
 ]
 
 -- each declaration has the type that its rule gives from the others'
-abbrev pub Solves : (List (Option StaticType) → ℕ → Option StaticType) → List (Option StaticType) → Type 0
+abbrev pub Solves : (TypeTable → ℕ → Option StaticType) → TypeTable → Type 0
 Solves rule kinds = (d : ℕ) → d < length kinds → at kinds d ≡ rule kinds d
 
 -- what is known stays
@@ -79,12 +83,12 @@ Less None y = Unit {0}
 Less (Some x) y = y ≡ Some x
 
 -- the second table has what the first has, and may have more
-abbrev pub Within : List (Option StaticType) → List (Option StaticType) → Type 0
+abbrev pub Within : TypeTable → TypeTable → Type 0
 Within xs ys = (d : ℕ) → Less (at xs d) (at ys d)
 
 -- the least of the tables that meet the rules
-pub record IsLeast (rule : List (Option StaticType) → ℕ → Option StaticType)
-    (kinds : List (Option StaticType)) : Type 0 where
+pub record IsLeast (rule : TypeTable → ℕ → Option StaticType)
+    (kinds : TypeTable) : Type 0 where
   pub solves : Solves rule kinds
-  pub least : (others : List (Option StaticType)) → length others ≡ length kinds → Solves rule others
+  pub least : (others : TypeTable) → length others ≡ length kinds → Solves rule others
       → Within kinds others

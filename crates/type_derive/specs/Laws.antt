@@ -7,14 +7,14 @@ use Rattle.sts_scope.specs.declared.known.Known.{Known}
 use Rattle.sts_scope.specs.Places.{NameScope}
 use Rattle.type_derive.specs.declared.roles.Role.{Role}
 use Rattle.type_derive.specs.Typing.{type_of}
-use Rattle.type_derive.specs.Derived.{Source, IsLeast, Less, Within, rule, at}
+use Rattle.type_derive.specs.Derived.{TypeTable, Source, IsLeast, Less, Within, rule, at}
 use Rattle.sts_scope.specs.Entries.{Naming}
 use Rattle.type_derive.specs.Growth.{KnownGrows, PlaceGrows}
 
 -- two least tables of the same length and the same rules have the same types
 abbrev pub IsOne : Type 0
 IsOne =
-    (rule : List (Option StaticType) → ℕ → Option StaticType) (xs ys : List (Option StaticType)) → length xs ≡ length ys
+    (rule : TypeTable → ℕ → Option StaticType) (xs ys : TypeTable) → length xs ≡ length ys
     → IsLeast rule xs → IsLeast rule ys → (d : ℕ) → at xs d ≡ at ys d
 
 -- where more types are known, an expression has the type that it had, if it had one
@@ -26,6 +26,6 @@ GrowsWithTypes =
 -- the rules of declarations give no less from a table that has more
 abbrev pub RulesGrow : Type 0
 RulesGrow =
-    (tables : Tables) (names : Naming) (k : Known) (sources : List Source) (xs ys : List (Option StaticType))
+    (tables : Tables) (names : Naming) (k : Known) (sources : List Source) (xs ys : TypeTable)
     → Within xs ys → (d : ℕ) →
     Less (rule tables names k sources xs d) (rule tables names k sources ys d)

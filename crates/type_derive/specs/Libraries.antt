@@ -11,6 +11,7 @@ use Rattle.sts_syntax.specs.TypeRules.{entry}
 use Rattle.sts_syntax.specs.Trees.{Does}
 use Rattle.sts_syntax.specs.Programs.{Class, Function, Main, Program}
 use Rattle.sts_scope.specs.declared.kinds.StaticType.{StaticType}
+use Rattle.type_derive.specs.Derived.{TypeTable}
 use Rattle.sts_scope.specs.declared.known.Known.{Known}
 use Rattle.sts_scope.specs.declared.known.This.TheVariants as this
 use Rattle.sts_scope.specs.Failures.{Failure, ◌then◌}
@@ -48,7 +49,7 @@ module _ (tables : Tables) (names : Naming) (k : Known) where
   library_failure d (Main a ∷ rest) = library_failure d rest
 
 -- a library before a text, with these types of declarations
-pub record IsLibrary (tables : Tables) (library text : Program) (kinds : List (Option StaticType)) : Type 0 where
+pub record IsLibrary (tables : Tables) (library text : Program) (kinds : TypeTable) : Type 0 where
   pub functions : OnlyFunctions library
   pub formed : IsFormedProgram library
   pub no_failure : library_failure tables (all_names library text) (known library text kinds) 0 library ≡ None

@@ -30,24 +30,16 @@ takes_nothing (q ∷ rest) = false
 
 abbrev pub is_called : Role → Bool
 is_called Called = true
-is_called Free = false
-is_called Given = false
-is_called Served = false
+is_called _ = false
 
 abbrev pub is_served : Role → Bool
 is_served Served = true
-is_served Free = false
-is_served Given = false
-is_served Called = false
+is_served _ = false
 
 -- a type that is written gives one to what stands there
-abbrev pub shape_role : Option Annotation → Role
-shape_role None = Free
-shape_role (Some a) = Given
-
-abbrev pub kind_role : Option StaticType → Role
+abbrev pub kind_role : {A : Type 0} → Option A → Role
 kind_role None = Free
-kind_role (Some t) = Given
+kind_role (Some a) = Given
 
 abbrev pub fits : Known → Option StaticType → Option StaticType → Bool
 fits k (Some s) (Some t) = goes k.classes s t
@@ -112,10 +104,8 @@ module _ (tables : Tables) (names : Naming) (k : Known) where
   -- no function stands where a handler is wanted
   abbrev pub lacks_handler : NameScope → List BoardParameter → Trees → Bool
   lacks_handler p (board.Handler ∷ ps) (more a rest) = not (is_routine tables k p a) || lacks_handler p ps rest
-  lacks_handler p (board.Of u ∷ ps) (more a rest) = lacks_handler p ps rest
-  lacks_handler p (board.Drawing ∷ ps) (more a rest) = lacks_handler p ps rest
-  lacks_handler p [] args = false
-  lacks_handler p (q ∷ ps) none = false
+  lacks_handler p (_ ∷ ps) (more a rest) = lacks_handler p ps rest
+  lacks_handler p _ _ = false
 
   abbrev pub own_board : NameScope → List BoardParameter → Trees → ℕ → Option Failure
   own_board p takes args at =
@@ -140,27 +130,25 @@ module _ (tables : Tables) (names : Naming) (k : Known) where
   is_list None = false
   is_list (Some t) = is_array t
 
+  -- no type follows
+  abbrev pub own_type : NameScope → Role → Tree → ℕ → Option Failure
+  own_type p r e at = own (type_of tables k p r e) Mismatch at
+
+  abbrev pub own_test : NameScope → Tree → ℕ → Option Failure
+  own_test p test at = unless (is_boolean (type_of tables k p Free test)) Mismatch at
+
   abbrev mutual
     pub failure : NameScope → Role → Tree → Option Failure
-    failure p r (Num at n) = None
-    failure p r (Text at n) = None
-    failure p r (Truth at b) = None
-    failure p r (Null at) = None
     failure p r (This at) = own (this_kind p.this) (why_this p.this) at
     failure p r (Name at x) = own_name r p (finds tables k p x) at
-    failure p r (Unary at op a) = failure p Free a then own (type_of tables k p r (Unary at op a)) Mismatch at
-    failure p r (Binary at op a b) =
-        failure p Free a then failure p Free b then own (type_of tables k p r (Binary at op a b)) Mismatch at
-    failure p r (Both at a b) =
-        failure p Free a then failure p Free b then own (type_of tables k p r (Both at a b)) Mismatch at
-    failure p r (Either at a b) =
-        failure p Free a then failure p Free b then own (type_of tables k p r (Either at a b)) Mismatch at
+    failure p r (Unary at op a) = failure p Free a then own_type p r (Unary at op a) at
+    failure p r (Binary at op a b) = failure p Free a then failure p Free b then own_type p r (Binary at op a b) at
+    failure p r (Both at a b) = failure p Free a then failure p Free b then own_type p r (Both at a b) at
+    failure p r (Either at a b) = failure p Free a then failure p Free b then own_type p r (Either at a b) at
     failure p r (Choice at c a b) =
-        failure p Free c then failure p Free a then failure p Free b
-        then own (type_of tables k p r (Choice at c a b)) Mismatch at
-    failure p r (Set at op x e) =
-        failure p Free x then failure p Given e then own (type_of tables k p r (Set at op x e)) Mismatch at
-    failure p r (Bump at x by late) = failure p Free x then own (type_of tables k p r (Bump at x by late)) Mismatch at
+        failure p Free c then failure p Free a then failure p Free b then own_type p r (Choice at c a b) at
+    failure p r (Set at op x e) = failure p Free x then failure p Given e then own_type p r (Set at op x e) at
+    failure p r (Bump at x by late) = failure p Free x then own_type p r (Bump at x by late) at
     failure p r (Member at a m) = elim (constant_of tables k p a m) [
       | Some z ↦ None
       | None ↦ elim (board_callee tables k p (Member at a m)) [
@@ -168,11 +156,10 @@ module _ (tables : Tables) (names : Naming) (k : Known) where
         | None ↦ failure p Free a then own_member r (type_of tables k p Free a) m at
       ]
     ]
-    failure p r (Item at a i) =
-        failure p Free a then failure p Free i then own (type_of tables k p r (Item at a i)) Mismatch at
-    failure p r (Items at none) = own (type_of tables k p r (Items at none)) Mismatch at
+    failure p r (Item at a i) = failure p Free a then failure p Free i then own_type p r (Item at a i) at
+    failure p r (Items at none) = own_type p r (Items at none) at
     failure p r (Items at (more e rest)) =
-        failure p Free e then failures p [] rest then own (type_of tables k p r (Items at (more e rest))) Mismatch at
+        failure p Free e then failures p [] rest then own_type p r (Items at (more e rest)) at
     failure p r (Call at f args) = elim (board_callee tables k p f) [
       | Some call ↦ failures p (row_of call).takes args then own_board p (row_of call).takes args at
       | None ↦ failure p Called f then failures p [] args
@@ -188,6 +175,7 @@ module _ (tables : Tables) (names : Naming) (k : Known) where
         (type_of tables k p r (Make at x args)) at
     failure p r (Handler at body) =
         handler_failure p body then unless (is_served r && serves_itself p body) BadHandler at
+    failure p r _ = None
 
     -- of arguments, by what their places do with them
     pub failures : NameScope → List BoardParameter → Trees → Option Failure
@@ -202,7 +190,7 @@ module _ (tables : Tables) (names : Naming) (k : Known) where
     -- of an initialiser; `null` or `[]` alone fails where it is declared
     pub initial_failure : NameScope → Option Annotation → OptionalTree → Option Failure
     initial_failure p shape absent = None
-    initial_failure p shape (present e) = if waives shape e then None else failure p (shape_role shape) e
+    initial_failure p shape (present e) = if waives shape e then None else failure p (kind_role shape) e
 
     pub optional_failure : NameScope → OptionalTree → Option Failure
     optional_failure p absent = None
@@ -210,7 +198,7 @@ module _ (tables : Tables) (names : Naming) (k : Known) where
 
     pub test_failure : NameScope → OptionalTree → ℕ → Option Failure
     test_failure p absent at = None
-    test_failure p (present e) at = unless (is_boolean (type_of tables k p Free e)) Mismatch at
+    test_failure p (present e) at = own_test p e at
 
     -- of a declared name in a block
     pub declaration_failure : NameScope → Declaration → Option Failure
@@ -229,23 +217,18 @@ module _ (tables : Tables) (names : Naming) (k : Known) where
     statement_failure p (Block at all) = statements_failure (inner p) all
     statement_failure p (Let at fixed each) = declarations_failure p fixed each
     statement_failure p (IfOnly at test a) =
-        failure p Free test then statement_failure (inner p) a
-        then unless (is_boolean (type_of tables k p Free test)) Mismatch at
+        failure p Free test then statement_failure (inner p) a then own_test p test at
     statement_failure p (IfElse at test a b) =
         failure p Free test then statement_failure (inner p) a then statement_failure (inner p) b
-        then unless (is_boolean (type_of tables k p Free test)) Mismatch at
+        then own_test p test at
     statement_failure p (While at test a) =
-        failure p Free test then statement_failure (inner p) a
-        then unless (is_boolean (type_of tables k p Free test)) Mismatch at
+        failure p Free test then statement_failure (inner p) a then own_test p test at
     statement_failure p (DoWhile at a test) =
-        statement_failure (inner p) a then failure p Free test
-        then unless (is_boolean (type_of tables k p Free test)) Mismatch at
+        statement_failure (inner p) a then failure p Free test then own_test p test at
     statement_failure p (For at first test step a) =
-        first_failure (inner p) first
-        then optional_failure (after_first tables names k (inner p) first) test
-        then optional_failure (after_first tables names k (inner p) first) step
-        then statement_failure (inner (after_first tables names k (inner p) first)) a
-        then test_failure (after_first tables names k (inner p) first) test at
+        let q = after_first tables names k (inner p) first in
+        first_failure (inner p) first then optional_failure q test then optional_failure q step
+        then statement_failure (inner q) a then test_failure q test at
     statement_failure p (ForOf at fixed x list a) =
         failure p Free list then statement_failure (inner (looped tables names k p fixed x list)) a
         then unless (not (is_dollar tables.names x)) UnknownName at
@@ -254,10 +237,8 @@ module _ (tables : Tables) (names : Naming) (k : Known) where
     statement_failure p (Return at (present e)) =
         failure p (kind_role p.gives) e
         then unless (fits k (type_of tables k p (kind_role p.gives) e) p.gives) Mismatch at
-    statement_failure p (Break at) = None
-    statement_failure p (Continue at) = None
     statement_failure p (Plain at e) = failure p Free e
-    statement_failure p (Empty at) = None
+    statement_failure p _ = None
 
     pub first_failure : NameScope → OptionalStatement → Option Failure
     first_failure p omitted = None

@@ -22,14 +22,12 @@ use Rattle.type_derive.specs.Nodes.{initial_failure, own_bound, failures, statem
 abbrev pub same_kinds : List StaticType → List StaticType → Bool
 same_kinds [] [] = true
 same_kinds (s ∷ ss) (t ∷ ts) = same s t && same_kinds ss ts
-same_kinds [] (t ∷ ts) = false
-same_kinds (s ∷ ss) [] = false
+same_kinds _ _ = false
 
 -- a result that can't be derived counts as equal to every other
 abbrev pub same_result : Option StaticType → Option StaticType → Bool
-same_result None t = true
-same_result (Some s) None = true
 same_result (Some s) (Some t) = same s t
+same_result _ _ = true
 
 module _ (k : Known) where
   abbrev pub agrees : ℕ → Option ℕ → Bool
@@ -48,8 +46,7 @@ module _ (k : Known) where
 
   abbrev pub item_overrides : ℕ → ℕ → TopLevel → Option Failure
   item_overrides c d (Class at x base base_at members) = overrides_failure c (suc d) members
-  item_overrides c d (Function x r) = None
-  item_overrides c d (Main a) = None
+  item_overrides c d _ = None
 
   abbrev pub all_overrides : Naming → ℕ → ℕ → Program → Option Failure
   all_overrides names c d [] = None

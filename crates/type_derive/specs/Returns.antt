@@ -1,5 +1,6 @@
 -- What declarations make known, and the first value that a function returns.
 use Rattle.std.specs.Prelude.{ℕ, Bool, true, false, Option, Some, None, List, [], ◌∷◌, length, if◌then◌else◌}
+use Rattle.std.specs.Option.{option_or}
 use Rattle.sts_base.specs.declared.tables.Tables.{Tables}
 use Rattle.sts_syntax.specs.Annotations.{Annotation}
 use Rattle.sts_syntax.specs.Trees.{Parameter, Tree, Null, Items, none, OptionalTree, absent, present, Statement, Block, Let, IfOnly, IfElse, While, DoWhile, For, ForOf, Return, Break, Continue, Plain, Empty, Statements, done, also, OptionalStatement, omitted, written, Declaration, Declare, Declarations, ended, next}
@@ -18,11 +19,6 @@ abbrev pub is_alone : Tree → Bool
 is_alone (Null at) = true
 is_alone (Items at none) = true
 is_alone _ = false
-
--- the first of two, where the first may be none
-abbrev pub or_else : {A : Type 0} → Option A → Option A → Option A
-or_else (Some a) b = Some a
-or_else None b = b
 
 -- the parameters of a function, each with its type
 abbrev pub parameter_locals : Naming → List Parameter → List Local
@@ -72,23 +68,18 @@ module _ (tables : Tables) (names : Naming) (k : Known) where
   abbrev mutual
     pub returned : NameScope → Statement → Option (Option StaticType)
     returned p (Return at (present e)) = Some (type_of tables k p Free e)
-    returned p (Return at absent) = None
     returned p (Block at all) = all_returned (inner p) all
     returned p (IfOnly at test a) = returned (inner p) a
-    returned p (IfElse at test a b) = or_else (returned (inner p) a) (returned (inner p) b)
+    returned p (IfElse at test a b) = option_or (returned (inner p) a) (returned (inner p) b)
     returned p (While at test a) = returned (inner p) a
     returned p (DoWhile at a test) = returned (inner p) a
     returned p (For at first test step a) = returned (inner (after_first (inner p) first)) a
     returned p (ForOf at fixed x list a) = returned (inner (looped p fixed x list)) a
-    returned p (Let at fixed each) = None
-    returned p (Break at) = None
-    returned p (Continue at) = None
-    returned p (Plain at e) = None
-    returned p (Empty at) = None
+    returned p _ = None
 
     pub all_returned : NameScope → Statements → Option (Option StaticType)
     all_returned p done = None
-    all_returned p (also s rest) = or_else (returned p s) (all_returned (after p s) rest)
+    all_returned p (also s rest) = option_or (returned p s) (all_returned (after p s) rest)
 
   -- the result of a function without a written one: nothing where no value is returned
   abbrev pub answered : Option (Option StaticType) → Option StaticType

@@ -31,9 +31,7 @@ None >>= f = None
 
 abbrev pub is_given : Role → Bool
 is_given Given = true
-is_given Free = false
-is_given Called = false
-is_given Served = false
+is_given _ = false
 
 -- What is called, but for calls of the board: what it takes and gives.
 pub record Callee : Type 0 where
@@ -120,9 +118,7 @@ module _ (tables : Tables) (k : Known) where
   part_callee (part.Method d) = Some (callee (takes_at k.entries d) (kind_at k d))
   part_callee (part.Push t) = Some (callee (t ∷ []) (Some nothing))
   part_callee (part.Pop t) = Some (callee [] (Some t))
-  part_callee (part.Field d) = None
-  part_callee part.Length = None
-  part_callee part.Missing = None
+  part_callee _ = None
 
   -- the method of a base
   abbrev pub method_of : Option ℕ → Option ℕ
@@ -131,8 +127,7 @@ module _ (tables : Tables) (k : Known) where
 
   abbrev pub super_method : Self → ℕ → Option ℕ
   super_method (this.Object c) m = method_of (inherited k.entries k.classes c m)
-  super_method (this.Hidden c) m = None
-  super_method this.Nowhere m = None
+  super_method _ m = None
 
   abbrev pub made : Found → Option Callee
   made (found.Class c) = Some (callee (maker_takes_of k.classes c) (Some (object c)))
@@ -217,5 +212,4 @@ module _ (tables : Tables) (k : Known) where
     are_given p (board.Of u ∷ ps) (more a rest) = given_to (type_of p Given a) u && are_given p ps rest
     are_given p (board.Handler ∷ ps) (more a rest) = is_routine p a && are_given p ps rest
     are_given p (board.Drawing ∷ ps) (more a rest) = is_drawing tables a && are_given p ps rest
-    are_given p [] (more a rest) = false
-    are_given p (q ∷ ps) none = false
+    are_given p _ _ = false

@@ -1,6 +1,7 @@
 -- Which declarations of a text have a type, where nothing fails: all but its classes.
 use Rattle.std.proofs.Common.{◌≡◌, ℕ, suc, ◌+◌, ◌≤◌, ◌||◌, refl, ap, ◌∙◌, Bool, true, false, Option, Some, None, List, [], ◌∷◌, ◌++◌, length, arith}
 use Rattle.std.specs.Prelude.{slice_get, not}
+use Rattle.std.specs.Option.{option_or}
 use Rattle.sts_base.specs.declared.tables.Tables.{Tables}
 use Rattle.sts_base.specs.declared.refused.Code.TheVariants.{Mismatch, TwiceNamed, NeedsType, UnknownName}
 use Rattle.sts_syntax.specs.Annotations.{Annotation}
@@ -24,7 +25,7 @@ use Rattle.sts_scope.specs.Places.{NameScope, inner, outside}
 use Rattle.sts_scope.specs.Rules.{kind_at, is_boolean}
 use Rattle.type_derive.specs.declared.roles.Role.TheVariants.{Free}
 use Rattle.type_derive.specs.Typing.{type_of}
-use Rattle.type_derive.specs.Returns.{bound, declared, all_declared, parameter_locals, within, returned, all_returned, answered, or_else, after, after_first, looped}
+use Rattle.type_derive.specs.Returns.{bound, declared, all_declared, parameter_locals, within, returned, all_returned, answered, after, after_first, looped}
 use Rattle.type_derive.specs.Derived.{Source, Stated, global_sources, main_sources, member_sources, item_sources, sources_from, routine_source, declared_source, follows}
 use Rattle.type_derive.specs.Nodes.{fits, statement_failure, first_failure, statements_failure, failure, kind_role, optional_failure, test_failure, is_list, initial_failure, own_bound}
 use Rattle.type_derive.specs.Passes.{field_failure, globals_failure, main_failure, body_failure, constructor_failure, members_nodes, item_nodes, nodes_failure}
@@ -117,8 +118,8 @@ module _ (names : Naming) (k : Known) (tables : Tables) where
   or_parts true b h = cc
   or_parts false b h = (refl, h)
 
-  or_none : (a b : Option (Option StaticType)) → a ≡ None → b ≡ None → or_else a b ≡ None
-  or_none a b p q = ap (λ (x : Option (Option StaticType)). or_else x b) p ∙ q
+  or_none : (a b : Option (Option StaticType)) → a ≡ None → b ≡ None → option_or a b ≡ None
+  or_none a b p q = ap (λ (x : Option (Option StaticType)). option_or x b) p ∙ q
 
   mutual
     returns_none : (p : NameScope) (a : Statement) → gives_value a ≡ false → returned tables names k p a ≡ None

@@ -1,6 +1,7 @@
 -- The least table of types has no type but those that values have.
 use Rattle.std.proofs.Common.{◌≡◌, ℕ, zero, suc, ◌+◌, refl, ap, ◌∙◌, subst, Bool, Option, Some, None, List, [], ◌∷◌, ◌++◌, length, inl, inr}
 use Rattle.std.specs.Prelude.{slice_get, nat_lt}
+use Rattle.std.specs.Option.{option_or}
 use Rattle.sts_base.specs.declared.tables.Tables.{Tables}
 use Rattle.sts_syntax.specs.Annotations.{Annotation}
 use Rattle.sts_syntax.specs.Trees.{Parameter, Tree, OptionalTree, absent, present, Statement, Block, Let, IfOnly, IfElse, While, DoWhile, For, ForOf, Return, Break, Continue, Plain, Empty, Statements, done, also, OptionalStatement, omitted, written, Declaration, Declare, Declarations, ended, next, Routine, Does}
@@ -16,7 +17,7 @@ use Rattle.sts_scope.specs.Rules.{local_kind, kind_at}
 use Rattle.sts_scope.specs.Scopes.{all_names}
 use Rattle.type_derive.specs.declared.roles.Role.TheVariants.{Free}
 use Rattle.type_derive.specs.Typing.{type_of}
-use Rattle.type_derive.specs.Returns.{is_alone, or_else, parameter_locals, within, bound, all_declared, after, after_first, items_of, looped, returned, all_returned, answered}
+use Rattle.type_derive.specs.Returns.{is_alone, parameter_locals, within, bound, all_declared, after, after_first, items_of, looped, returned, all_returned, answered}
 use Rattle.type_derive.specs.Derived.{Source, Stated, Initial, Returns, declared_source, routine_source, global_sources, main_sources, member_sources, item_sources, sources_from, follows, at}
 use Rattle.type_derive.specs.Accepted.{known, all_sources, derivation, AreDerived}
 use Rattle.type_derive.proofs.Laws.{rule_grows, least_has}
@@ -73,7 +74,7 @@ module _ (tables : Tables) (names : Naming) (k : Known) (kinds_proper : (d : ℕ
   looped_proper p a fixed x list =
       with_proper (inner p) a x (items_of tables names k (type_of tables k p Free list)) fixed (λ u h. items_proper (type_of tables k p Free list) (λ v q. free_proper p a list v q) u h)
 
-  else_proper : (a b : Option (Option StaticType)) (u : StaticType) → ((v : StaticType) → a ≡ Some (Some v) → IsProper v) → ((v : StaticType) → b ≡ Some (Some v) → IsProper v) → or_else a b ≡ Some (Some u) → IsProper u
+  else_proper : (a b : Option (Option StaticType)) (u : StaticType) → ((v : StaticType) → a ≡ Some (Some v) → IsProper v) → ((v : StaticType) → b ≡ Some (Some v) → IsProper v) → option_or a b ≡ Some (Some u) → IsProper u
   else_proper None b u f g h = g u h
   else_proper (Some x) b u f g h = f u h
 

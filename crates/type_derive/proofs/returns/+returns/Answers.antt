@@ -1,5 +1,6 @@
 use Rattle.std.proofs.Common.{◌≡◌, ◌+◌, ◌<◌, length, drop, sym, ap, ◌∙◌, subst, arith}
 use Rattle.std.specs.Prelude.{IfOk}
+use Rattle.std.specs.Option.{option_or}
 use Rattle.sts_syntax.specs.Views.{tree, declarations, statement, statements, form_statement}
 use Rattle.sts_syntax.proofs.Laws.{let_statement}
 use Rattle.sts_scope.specs.Places.{inner, with}
@@ -9,7 +10,6 @@ use Rattle.type_derive.specs.Scopes.{place}
 use Rattle.type_derive.specs.Moves.{Extends}
 use Rattle.type_derive.specs.Naming.{naming}
 use Rattle.type_derive.specs.Returns as given
-use Rattle.type_derive.specs.Returns.{or_else}
 use Rattle.type_derive.proofs.Opened.{block_is}
 use Rattle.type_derive.proofs.Moves.{closed, stays, further, extends_to, after_extends, returned_step}
 use Rattle.type_derive.proofs.returns.+returns.Goals as goal
@@ -66,7 +66,7 @@ returned_in_block-loop-i-preserved t c =
     let hollow = sym c.in_ok-kind.ensures.value ∙ c.in_default.is in
     record {
       value = ap (λ z. given.all_returned s f k z rest) c.in_ok-kind.ensures.place
-          ∙ sym (returned_step s f k q xs i c.index-all-i.result lt c.index-all-i.is ∙ ap (λ o. or_else o (given.all_returned s f k (given.after s f k q a) rest)) hollow)
+          ∙ sym (returned_step s f k q xs i c.index-all-i.result lt c.index-all-i.is ∙ ap (λ o. option_or o (given.all_returned s f k (given.after s f k q a) rest)) hollow)
           ∙ c.loop-i.invariant.value;
       here = further (place c.enter-mark.new.scope) q r c.loop-i.invariant.here (extends_to q (given.after s f k q a) r (after_extends s f k q a) c.in_ok-kind.ensures.place);
     }
