@@ -2,6 +2,7 @@
 use Rattle.std.proofs.Common.{◌≡◌, ℕ, zero, suc, ◌+◌, ◌-◌, ◌<◌, ◌≤◌, length, sym, ap, ◌∙◌, subst, arith, inl, inr, le-ltb}
 use Rattle.std.specs.Prelude.{max, Bool, Some, None, if◌then◌else◌}
 use Rattle.std.proofs.lemmas.Bool.{cases_lt}
+use Rattle.std.specs.Option.{option_or}
 use Rattle.sts_syntax.specs.Trees.{Tree, Statement}
 use Rattle.sts_syntax.specs.Nesting.{nesting, statement_nesting}
 use Rattle.sts_grammar.specs.Precedence.{assignment_level}
@@ -12,7 +13,7 @@ use Rattle.sts_grammar.specs.Spells.{IsBare, IsStatement, IsExpression, IsWholeE
 use Rattle.sts_grammar.specs.Longest.{IsLongestExpression, NoExpression, IsLongestStatement, NoStatement}
 use Rattle.sts_grammar.specs.Found.{Found}
 use Rattle.sts_grammar.specs.ReadExpressions.{binds_before}
-use Rattle.sts_grammar.specs.Reading.{expression, statement, or_else, longest_expression}
+use Rattle.sts_grammar.specs.Reading.{expression, statement, longest_expression}
 use Rattle.sts_grammar.proofs.Tokens.{never, both_are}
 use Rattle.sts_grammar.proofs.Spans.{Within, operand_spans, bare_spans}
 use Rattle.sts_grammar.proofs.Levels.{binds_inside, binds_le}
@@ -116,7 +117,7 @@ longest_if s i upto e j all h =
     let stops : binds_before s upto j < 1 = r.2 in
     record { spelled = r.0; nested = r.1; longest = longest_by s most_nesting i upto e j r.0 (omega arith) all }
 
-longest_step : (s : Source) (i n : ℕ) (r : Found Tree) (other : Found Tree) (e : Tree) (j : ℕ) → expression s (n + 1) most_nesting assignment_level i ≡ r → EndsBy s most_nesting i (n + 1) → (EndsBy s most_nesting i n → other ≡ Some (e, j) → IsLongestExpression s i e j) → or_else r other ≡ Some (e, j) → IsLongestExpression s i e j
+longest_step : (s : Source) (i n : ℕ) (r : Found Tree) (other : Found Tree) (e : Tree) (j : ℕ) → expression s (n + 1) most_nesting assignment_level i ≡ r → EndsBy s most_nesting i (n + 1) → (EndsBy s most_nesting i n → other ≡ Some (e, j) → IsLongestExpression s i e j) → option_or r other ≡ Some (e, j) → IsLongestExpression s i e j
 longest_step s i n (Some x) other e j q all go h = longest_if s i (n + 1) e j all (q ∙ h)
 longest_step s i n None other e j q all go h =
     let back : n + 1 - 1 ≡ n = omega arith in go (subst (EndsBy s most_nesting i) back (ends_by_less s most_nesting i (n + 1) q all)) h
@@ -128,7 +129,7 @@ longest_sound s i (suc n) e j all h =
     let one : suc n ≡ n + 1 = omega arith in
     longest_step s i n (expression s (suc n) most_nesting assignment_level i) (longest_expression s n i) e j (ap (λ z. expression s z most_nesting assignment_level i) (sym one)) (subst (EndsBy s most_nesting i) one all) (λ less g. longest_sound s i n e j less g) h
 
-none_step : (s : Source) (i n : ℕ) (r : Found Tree) (other : Found Tree) → expression s (n + 1) most_nesting assignment_level i ≡ r → EndsBy s most_nesting i (n + 1) → (EndsBy s most_nesting i n → other ≡ None → NoExpression s i) → or_else r other ≡ None → NoExpression s i
+none_step : (s : Source) (i n : ℕ) (r : Found Tree) (other : Found Tree) → expression s (n + 1) most_nesting assignment_level i ≡ r → EndsBy s most_nesting i (n + 1) → (EndsBy s most_nesting i n → other ≡ None → NoExpression s i) → option_or r other ≡ None → NoExpression s i
 none_step s i n (Some x) other q all go h = never x (sym h)
 none_step s i n None other q all go h =
     let back : n + 1 - 1 ≡ n = omega arith in go (subst (EndsBy s most_nesting i) back (ends_by_less s most_nesting i (n + 1) q all)) h

@@ -1,6 +1,7 @@
 -- How the tokens are read: a tree from a token's number on, with at most the nesting `room`, and the number behind it. This is proved
 -- to find what the tokens spell.
 use Rattle.std.specs.Prelude.{ℕ, zero, suc, Bool, Option, Some, None, length}
+use Rattle.std.specs.Option.{option_or}
 use Rattle.sts_syntax.specs.Trees.{Tree, Statement}
 use Rattle.sts_grammar.specs.Precedence.{assignment_level}
 use Rattle.sts_grammar.specs.Limits.{most_nesting}
@@ -31,13 +32,8 @@ expression_readers s upto room = record { expr = expression s upto room; stmt = 
 abbrev pub statement_readers : Source → (room : ℕ) → Readers
 statement_readers s room = expression_readers s (length s.tokens) room
 
--- the first of two readings that finds something
-abbrev pub or_else : {A : Type 0} → Option A → Option A → Option A
-or_else None other = other
-or_else (Some x) other = Some x
-
 -- The longest expression within the limit of nesting: what is read with the greatest bound, at most n, with which something is.
 unfoldable pub longest_expression : Source → (n i : ℕ) → Found Tree
 longest_expression s zero i = None
 longest_expression s (suc n) i =
-    or_else (expression s (suc n) most_nesting assignment_level i) (longest_expression s n i)
+    option_or (expression s (suc n) most_nesting assignment_level i) (longest_expression s n i)
