@@ -130,10 +130,11 @@ module _ (tables : Tables) (names : Naming) (k : Known) where
   is_list None = false
   is_list (Some t) = is_array t
 
-  -- no type follows
+  -- a node whose parts have no failure has no type
   abbrev pub own_type : NameScope → Role → Tree → ℕ → Option Failure
   own_type p r e at = own (type_of tables k p r e) Mismatch at
 
+  -- a test isn't boolean
   abbrev pub own_test : NameScope → Tree → ℕ → Option Failure
   own_test p test at = unless (is_boolean (type_of tables k p Free test)) Mismatch at
 
