@@ -91,7 +91,9 @@ module _ (tables : Tables) (names : Naming) (k : Known) (p : NameScope) where
   given_lacks : (takes : List BoardParameter) (args : Trees) → are_given tables k p takes args ≡ true → lacks_handler tables names k p takes args ≡ false
   given_lacks [] none h = refl
   given_lacks [] (more a rest) h = cc
-  given_lacks (q ∷ ps) none h = cc
+  given_lacks (board.Of u ∷ ps) none h = cc
+  given_lacks (board.Drawing ∷ ps) none h = cc
+  given_lacks (board.Handler ∷ ps) none h = cc
   given_lacks (board.Of u ∷ ps) (more a rest) h = given_lacks ps rest (both_true (given_to tables k (type_of tables k p Given a) u) (are_given tables k p ps rest) h).1
   given_lacks (board.Drawing ∷ ps) (more a rest) h = given_lacks ps rest (both_true (is_drawing tables a) (are_given tables k p ps rest) h).1
   given_lacks (board.Handler ∷ ps) (more a rest) h =
