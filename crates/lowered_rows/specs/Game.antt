@@ -1,6 +1,7 @@
 -- The flat code of a game, written by hand from its source: a paddle that two buttons move, and drops that fall on it.
 use Rattle.std.specs.Prelude.{ℕ, pos, true, List, [], ◌∷◌, ◌++◌, Some, None}
-use Rattle.sts_syntax.specs.declared.operators.TheConstants.{NEGATE}
+use Rattle.sts_syntax.specs.declared.operators.TheConstants.{NEGATE, EQUAL, LESS, ADD}
+use Rattle.flat_ir.specs.declared.operators.TheConstants.{INCREMENT, DECREMENT}
 use Rattle.flat_ir.specs.declared.ops.Op.{Op}
 use Rattle.flat_ir.specs.declared.ops.Op.TheVariants.{Const, Copy, Unary, Binary, GlobalGet, GlobalSet, FieldGet, FieldSet, ItemGet, MakeObject, MakeArray, Call, CallSlot, HandlerOf, Ask, Jump, Branch, Return}
 use Rattle.flat_ir.specs.declared.ops.Function.{Function}
@@ -13,7 +14,7 @@ use Rattle.sts_syntax.specs.TypedTrees.{TypedTree, TypedStatement, TypedRoutine,
 use Rattle.sts_syntax.specs.LibraryRoutines.{library_routines}
 use Rattle.sts_meaning.specs.Forms.{args, block, num, param, local, global, binary, less, equal, board, call, send, handler, does, pauses, let_local, let_global, function, plain}
 use Rattle.lowered_rows.specs.Written as w
-use Rattle.lowered_rows.specs.Written.{add, off}
+use Rattle.lowered_rows.specs.Written.{off}
 
 abbrev pub this_x : TypedTree
 this_x = e.Field t.Number (e.This (t.Object 0)) 0
@@ -33,7 +34,7 @@ paddle_move =
     function (t.Object 0 ∷ (t.Number ∷ [])) [] t.Nothing
     (does (board b.Unplot (this_x ∷ (num 4 ∷ [])))
     ∷ (does (e.Set t.Number None this_x
-    (call t.Number 6 (num 0 ∷ (call t.Number 5 (num 4 ∷ (binary add this_x (param t.Number 1) ∷ [])) ∷ []))))
+    (call t.Number 6 (num 0 ∷ (call t.Number 5 (num 4 ∷ (binary ADD this_x (param t.Number 1) ∷ [])) ∷ []))))
     ∷ (does (board b.Plot (this_x ∷ (num 4 ∷ []))) ∷ [])))
 
 abbrev pub paddle : TypedTree
@@ -61,8 +62,8 @@ drops_fall =
     (nested_block (does (board b.Plot (col ∷ (row ∷ [])))
     ∷ (pauses 100 ∷ (does (board b.Unplot (col ∷ (row ∷ []))) ∷ []))))
     ∷ (e.IfOnly (equal (e.Field t.Number paddle 0) col)
-    (nested_block (does (e.Set t.Number (Some add) score (num 1)) ∷ []))
-    ∷ (does (e.Set t.Number (Some add) turn (num 1)) ∷ (does (call t.Nothing 1 (score ∷ [])) ∷ [])))))) ∷ []))
+    (nested_block (does (e.Set t.Number (Some ADD) score (num 1)) ∷ []))
+    ∷ (does (e.Set t.Number (Some ADD) turn (num 1)) ∷ (does (call t.Nothing 1 (score ∷ [])) ∷ [])))))) ∷ []))
 
 -- let paddle = new Paddle(); let drops = [0, 3, 1, 4, 2]; let turn = 0; let score = 0, and the handlers
 abbrev pub game_main : TypedRoutine
@@ -98,14 +99,14 @@ abbrev pub move_code : Function
 move_code =
     w.function 2 0 5 2
     (Copy 2 0 ∷ (FieldGet 2 2 0 ∷ (Const 3 (pos 4) ∷ (Const 4 (pos 0) ∷ (Ask 2 10 (2 ∷ (3 ∷ (4 ∷ [])))  -- led.unplot(this.x, 4)
-    ∷ (Copy 2 0 ∷ (Const 3 (pos 0) ∷ (Const 4 (pos 4) ∷ (Copy 5 0 ∷ (FieldGet 5 5 0 ∷ (Copy 6 1 ∷ (Binary 5 add 5 6  -- this, 0, 4, this.x + d
+    ∷ (Copy 2 0 ∷ (Const 3 (pos 0) ∷ (Const 4 (pos 4) ∷ (Copy 5 0 ∷ (FieldGet 5 5 0 ∷ (Copy 6 1 ∷ (Binary 5 ADD 5 6  -- this, 0, 4, this.x + d
     ∷ (Call 4 5 (4 ∷ (5 ∷ [])) ∷ (Call 3 6 (3 ∷ (4 ∷ [])) ∷ (FieldSet 2 0 3 ∷ (Copy 2 3  -- the lesser, the greater, and the store
     ∷ (Copy 2 0 ∷ (FieldGet 2 2 0 ∷ (Const 3 (pos 4) ∷ (Const 4 (pos 1) ∷ (Ask 2 10 (2 ∷ (3 ∷ (4 ∷ [])))  -- led.plot(this.x, 4)
     ∷ off 2)))))))))))))))))))))
 
 abbrev pub left_code : Function
 left_code =
-    w.function 0 0 2 2 (GlobalGet 0 0 ∷ (Const 1 (pos 1) ∷ (Unary 1 1 1 ∷ (CallSlot 0 0 (0 ∷ (1 ∷ [])) ∷ off 0))))
+    w.function 0 0 2 2 (GlobalGet 0 0 ∷ (Const 1 (pos 1) ∷ (Unary 1 NEGATE 1 ∷ (CallSlot 0 0 (0 ∷ (1 ∷ [])) ∷ off 0))))
 
 abbrev pub right_code : Function
 right_code = w.function 0 0 2 2 (GlobalGet 0 0 ∷ (Const 1 (pos 1) ∷ (CallSlot 0 0 (0 ∷ (1 ∷ [])) ∷ off 0)))
@@ -114,17 +115,17 @@ right_code = w.function 0 0 2 2 (GlobalGet 0 0 ∷ (Const 1 (pos 1) ∷ (CallSlo
 abbrev pub fall_code : Function
 fall_code =
     w.function 0 2 3 1
-    (GlobalGet 2 2 ∷ (Const 3 (pos 1) ∷ (Binary 2 6 2 3 ∷ (Branch 2 5 ∷ (Jump 45  -- 0: if (turn < 1)
+    (GlobalGet 2 2 ∷ (Const 3 (pos 1) ∷ (Binary 2 LESS 2 3 ∷ (Branch 2 5 ∷ (Jump 45  -- 0: if (turn < 1)
     ∷ (GlobalGet 2 1 ∷ (GlobalGet 3 2 ∷ (ItemGet 2 2 3 ∷ (Copy 0 2  -- 5: let col = drops[turn]
     ∷ (Const 2 (pos 0) ∷ (Copy 1 2  -- 9: let row = 0
-    ∷ (Copy 2 1 ∷ (Const 3 (pos 4) ∷ (Binary 2 6 2 3 ∷ (Branch 2 16 ∷ (Jump 29  -- 11: row < 4
+    ∷ (Copy 2 1 ∷ (Const 3 (pos 4) ∷ (Binary 2 LESS 2 3 ∷ (Branch 2 16 ∷ (Jump 29  -- 11: row < 4
     ∷ (Copy 2 0 ∷ (Copy 3 1 ∷ (Const 4 (pos 1) ∷ (Ask 2 10 (2 ∷ (3 ∷ (4 ∷ [])))  -- 16: led.plot(col, row)
     ∷ (Const 2 (pos 100) ∷ (Ask 2 2 (2 ∷ [])  -- 20: basic.pause(100)
     ∷ (Copy 2 0 ∷ (Copy 3 1 ∷ (Const 4 (pos 0) ∷ (Ask 2 10 (2 ∷ (3 ∷ (4 ∷ [])))  -- 22: led.unplot(col, row)
-    ∷ (Unary 1 5 1 ∷ (Unary 2 6 1 ∷ (Jump 11  -- 26: row++
-    ∷ (GlobalGet 2 0 ∷ (FieldGet 2 2 0 ∷ (Copy 3 0 ∷ (Binary 2 4 2 3 ∷ (Branch 2 35 ∷ (Jump 39  -- 29: if (paddle.x == col)
-    ∷ (GlobalGet 2 3 ∷ (Const 3 (pos 1) ∷ (Binary 2 add 2 3 ∷ (GlobalSet 3 2  -- 35: score += 1
-    ∷ (GlobalGet 2 2 ∷ (Const 3 (pos 1) ∷ (Binary 2 add 2 3 ∷ (GlobalSet 2 2  -- 39: turn += 1
+    ∷ (Unary 1 INCREMENT 1 ∷ (Unary 2 DECREMENT 1 ∷ (Jump 11  -- 26: row++
+    ∷ (GlobalGet 2 0 ∷ (FieldGet 2 2 0 ∷ (Copy 3 0 ∷ (Binary 2 EQUAL 2 3 ∷ (Branch 2 35 ∷ (Jump 39  -- 29: if (paddle.x == col)
+    ∷ (GlobalGet 2 3 ∷ (Const 3 (pos 1) ∷ (Binary 2 ADD 2 3 ∷ (GlobalSet 3 2  -- 35: score += 1
+    ∷ (GlobalGet 2 2 ∷ (Const 3 (pos 1) ∷ (Binary 2 ADD 2 3 ∷ (GlobalSet 2 2  -- 39: turn += 1
     ∷ (GlobalGet 2 3 ∷ (Call 2 1 (2 ∷ [])  -- 43: basic.showNumber(score)
     ∷ off 2)))))))))))))))))))))))))))))))))))))))))))))
 

@@ -1,5 +1,6 @@
 -- Flat code of two small programs, written by hand from their source.
 use Rattle.std.specs.Prelude.{ℕ, pos, List, [], ◌∷◌}
+use Rattle.sts_syntax.specs.declared.operators.TheConstants.{ADD, MULTIPLY}
 use Rattle.flat_ir.specs.declared.ops.Op.{Op}
 use Rattle.flat_ir.specs.declared.ops.Op.TheVariants.{Const, Copy, Binary, Call, HandlerOf, Ask, Return}
 use Rattle.flat_ir.specs.declared.ops.Function.{Function}
@@ -8,12 +9,6 @@ use Rattle.flat_ir.specs.declared.ops.FlatCode.{FlatCode}
 abbrev pub function : (params locals operands outgoing : ℕ) → List Op → Function
 function params locals operands outgoing ops =
     record { params = params; locals = locals; operands = operands; outgoing = outgoing; ops = ops }
-
-abbrev pub add : ℕ
-add = 13
-
-abbrev pub multiply : ℕ
-multiply = 15
 
 -- running off the end
 abbrev pub off : ℕ → List Op
@@ -25,7 +20,7 @@ abbrev pub calls_itself : Function
 calls_itself =
     function 1 0 2 1
     (Copy 1 0 ∷ (Ask 1 12 (1 ∷ [])  -- serial.writeNumber(n)
-    ∷ (Copy 1 0 ∷ (Const 2 (pos 1) ∷ (Binary 1 add 1 2 ∷ (Call 1 0 (1 ∷ [])  -- f(n + 1)
+    ∷ (Copy 1 0 ∷ (Const 2 (pos 1) ∷ (Binary 1 ADD 1 2 ∷ (Call 1 0 (1 ∷ [])  -- f(n + 1)
     ∷ off 1))))))
 
 -- f(1)
@@ -40,7 +35,7 @@ endless_code = record { functions = calls_itself ∷ (calls_once ∷ []); classe
 abbrev pub deep_code : Function
 deep_code =
     function 1 1 2 0
-    (Copy 2 0 ∷ (Const 3 (pos 3) ∷ (Binary 2 multiply 2 3 ∷ (Copy 1 2  -- let k = n * 3
+    (Copy 2 0 ∷ (Const 3 (pos 3) ∷ (Binary 2 MULTIPLY 2 3 ∷ (Copy 1 2  -- let k = n * 3
     ∷ (Const 2 (pos 5) ∷ (Ask 2 2 (2 ∷ [])  -- basic.pause(5)
     ∷ (Copy 2 1 ∷ (Return 2  -- return k
     ∷ off 2))))))))
@@ -50,9 +45,9 @@ deep_code =
 abbrev pub mid_code : Function
 mid_code =
     function 1 2 2 1
-    (Copy 3 0 ∷ (Const 4 (pos 1) ∷ (Binary 3 add 3 4 ∷ (Copy 1 3  -- let m = n + 1
+    (Copy 3 0 ∷ (Const 4 (pos 1) ∷ (Binary 3 ADD 3 4 ∷ (Copy 1 3  -- let m = n + 1
     ∷ (Copy 3 1 ∷ (Call 3 0 (3 ∷ []) ∷ (Copy 2 3  -- let r = deep(m)
-    ∷ (Copy 3 1 ∷ (Const 4 (pos 100) ∷ (Binary 3 multiply 3 4 ∷ (Copy 4 2 ∷ (Binary 3 add 3 4 ∷ (Return 3  -- return m * 100 + r
+    ∷ (Copy 3 1 ∷ (Const 4 (pos 100) ∷ (Binary 3 MULTIPLY 3 4 ∷ (Copy 4 2 ∷ (Binary 3 ADD 3 4 ∷ (Return 3  -- return m * 100 + r
     ∷ off 3)))))))))))))
 
 -- serial.writeNumber(mid(6))
@@ -67,7 +62,7 @@ four_code =
     (Const 4
     (pos 11) ∷ (Copy 0 4 ∷ (Const 4 (pos 22) ∷ (Copy 1 4 ∷ (Const 4 (pos 33) ∷ (Copy 2 4 ∷ (Const 4 (pos 44) ∷ (Copy 3 4
     ∷ (Copy 4 0
-    ∷ (Copy 5 1 ∷ (Binary 4 add 4 5 ∷ (Copy 5 2 ∷ (Binary 4 add 4 5 ∷ (Copy 5 3 ∷ (Binary 4 add 4 5 ∷ (Ask 4 12 (4 ∷ [])
+    ∷ (Copy 5 1 ∷ (Binary 4 ADD 4 5 ∷ (Copy 5 2 ∷ (Binary 4 ADD 4 5 ∷ (Copy 5 3 ∷ (Binary 4 ADD 4 5 ∷ (Ask 4 12 (4 ∷ [])
     ∷ off 4))))))))))))))))
 
 -- control.onEvent(50, 1, ..); control.onEvent(50, 1, ..); control.raiseEvent(50, 1)
