@@ -1,4 +1,5 @@
 -- Worked rows, computed by the definitions.
+use Rattle.sts_syntax.specs.declared.operators.TheConstants.{ADD}
 use Rattle.sts_syntax.specs.declared.typed.Spot.TheVariants.{Local}
 use Rattle.sts_syntax.specs.declared.typed.Callee.TheVariants as c
 use Rattle.sts_syntax.specs.declared.board_calls.BoardCall.TheVariants as b
@@ -184,7 +185,7 @@ pub counted_steps_of_expressions-name : steps (does name ∷ []) ≡ 4
 unfolding digits int_wrap
 counted_steps_of_expressions-name = refl
 
-pub counted_steps_of_expressions-operator : steps (does (binary 13 (num 1) (num 2)) ∷ []) ≡ 6
+pub counted_steps_of_expressions-operator : steps (does (binary ADD (num 1) (num 2)) ∷ []) ≡ 6
 unfolding digits int_wrap
 counted_steps_of_expressions-operator = refl
 
@@ -200,7 +201,7 @@ pub counted_steps_of_expressions-assignment : steps (does (e.Set t.Number None n
 unfolding digits int_wrap
 counted_steps_of_expressions-assignment = refl
 
-pub counted_steps_of_expressions-compound : steps (does (e.Set t.Number (Some 13) name (num 1)) ∷ []) ≡ 7
+pub counted_steps_of_expressions-compound : steps (does (e.Set t.Number (Some ADD) name (num 1)) ∷ []) ≡ 7
 unfolding digits int_wrap
 counted_steps_of_expressions-compound = refl
 
@@ -256,7 +257,7 @@ pub counted_steps_of_expressions-field_set : steps (makes ∷ does (e.Set t.Numb
 unfolding digits int_wrap
 counted_steps_of_expressions-field_set = refl
 
-pub counted_steps_of_expressions-field_added : steps (makes ∷ does (e.Set t.Number (Some 13) (e.Field t.Number object 0) (num 1)) ∷ []) ≡ 13
+pub counted_steps_of_expressions-field_added : steps (makes ∷ does (e.Set t.Number (Some ADD) (e.Field t.Number object 0) (num 1)) ∷ []) ≡ 13
 unfolding digits int_wrap
 counted_steps_of_expressions-field_added = refl
 

@@ -41,7 +41,8 @@ counted n P = (let end = after n P 1000 [] in transcript_of end ++ stats_of end)
 -- serial.writeNumber(7 / 0); serial.writeNumber(-7 % 2)
 abbrev pub division : TypedProgram
 division =
-    simple (plain (says (binary DIVIDE (num 7) (num 0)) ∷ says (binary REMAINDER (e.Unary t.Number NEGATE (num 7)) (num 2)) ∷ []) ∷ [])
+    simple (plain (says (binary DIVIDE (num 7) (num 0))
+    ∷ says (binary REMAINDER (e.Unary t.Number NEGATE (num 7)) (num 2)) ∷ []) ∷ [])
 
 -- basic.forever(function () { led.toggle(0, 0) })
 abbrev pub blinking : TypedProgram

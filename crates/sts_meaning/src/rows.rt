@@ -1,6 +1,7 @@
 //! Worked rows: typed trees, and what the definitions write for them. Expected lines were written by hand from the rules.
 
 ghost use Rattle.std.specs.Prelude.{◌≡◌, pos, true, false, [], ◌∷◌, Some, None, codes};
+ghost use Rattle.sts_syntax.specs.declared.operators.TheConstants.{ADD};
 ghost use Rattle.sts_syntax.specs.declared.typed.Spot.TheVariants.{Local};
 ghost use Rattle.sts_syntax.specs.declared.typed.Callee.TheVariants as c;
 ghost use Rattle.sts_syntax.specs.declared.board_calls.BoardCall.TheVariants as b;
@@ -100,11 +101,11 @@ pub fn counted_steps_of_expressions()
     ensures nothing { steps ([]) ≡ 3 }
     ensures literal { steps (does (num 1) ∷ []) ≡ 4 }
     ensures name { steps (does name ∷ []) ≡ 4 }
-    ensures operator { steps (does (binary 13 (num 1) (num 2)) ∷ []) ≡ 6 }
+    ensures operator { steps (does (binary ADD (num 1) (num 2)) ∷ []) ≡ 6 }
     ensures both { steps (does (e.Both t.Boolean truth falsehood) ∷ []) ≡ 6 }
     ensures choice { steps (does (e.Choice t.Number truth (num 1) (num 2)) ∷ []) ≡ 6 }
     ensures assignment { steps (does (e.Set t.Number None name (num 1)) ∷ []) ≡ 5 }
-    ensures compound { steps (does (e.Set t.Number (Some 13) name (num 1)) ∷ []) ≡ 7 }
+    ensures compound { steps (does (e.Set t.Number (Some ADD) name (num 1)) ∷ []) ≡ 7 }
     ensures bump { steps (bumps name ∷ []) ≡ 4 }
     ensures array { steps (does (list (num 1 ∷ num 2 ∷ [])) ∷ []) ≡ 8 }
     ensures length { steps (does (e.Length t.Number (list [])) ∷ []) ≡ 5 }
@@ -118,7 +119,7 @@ pub fn counted_steps_of_expressions()
     ensures method { steps (makes ∷ does (send t.Nothing 0 (object ∷ [])) ∷ []) ≡ 12 }
     ensures field { steps (makes ∷ does (e.Field t.Number object 0) ∷ []) ≡ 10 }
     ensures field_set { steps (makes ∷ does (e.Set t.Number None (e.Field t.Number object 0) (num 1)) ∷ []) ≡ 11 }
-    ensures field_added { steps (makes ∷ does (e.Set t.Number (Some 13) (e.Field t.Number object 0) (num 1)) ∷ [])
+    ensures field_added { steps (makes ∷ does (e.Set t.Number (Some ADD) (e.Field t.Number object 0) (num 1)) ∷ [])
         ≡ 13 }
     ensures handler { steps (does (board b.OnEvent (num 1 ∷ num 1 ∷ handler 2 ∷ [])) ∷ []) ≡ 7 }
 {}

@@ -2,6 +2,8 @@
 ghost use Rattle.std.specs.Prelude.{◌≡◌, ℕ, pos, [], ◌∷◌, true};
 ghost use Rattle.thumb_code.specs.declared.instructions.Instr.TheVariants as i;
 ghost use Rattle.thumb_layout.specs.declared.pieces.Piece.TheVariants as p;
+ghost use Rattle.sts_syntax.specs.declared.operators.TheConstants.{LESS};
+ghost use Rattle.flat_ir.specs.declared.operators.TheConstants.{DECREMENT};
 ghost use Rattle.flat_ir.specs.declared.ops.Op.TheVariants as o;
 ghost use Rattle.register_assign.specs.declared.places.Place.TheVariants as t;
 ghost use Rattle.register_assign.specs.Sound.{place_of};
@@ -11,9 +13,9 @@ ghost use Rattle.thumb_emit.specs.Small.{small, small_places};
 /// A function with two parameters, one local in a slot and two operands in r4 and r5, which passes two arguments: one less than the first
 /// parameter; whether that is less than the second; a call with both; a field, whose value nobody reads; and its entry, at which the second parameter goes to r6.
 pub fn rows_of_pieces()
-    ensures one_less { op_pieces small (place_of small_places) 0 (o.Unary 3 6 0)
+    ensures one_less { op_pieces small (place_of small_places) 0 (o.Unary 3 DECREMENT 0)
         ≡ p.Plain (i.LdrSp 0 10) ∷ p.Plain (i.SubImm3 4 0 1) ∷ p.Label 16 ∷ [] }
-    ensures less { op_pieces small (place_of small_places) 1 (o.Binary 2 6 3 1)
+    ensures less { op_pieces small (place_of small_places) 1 (o.Binary 2 LESS 3 1)
         ≡ p.Label 16 ∷ p.Label 16 ∷ p.Plain (i.MovImm 0 1) ∷ p.Plain (i.CmpReg 4 6) ∷ p.Go 11 4 ∷ p.Plain (i.MovImm 0 0)
         ∷ p.Label 4 ∷ p.Label 16 ∷ p.Plain (i.StrSp 0 2) ∷ [] }
     ensures call { op_pieces small (place_of small_places) 2 (o.Call 4 9 (3 ∷ 2 ∷ []))
