@@ -46,7 +46,7 @@ fn by_row<M: Memory>(instr: Instr, next: u32, s: &mut Registers, m: &mut M) -> T
     ensures flags { s.old.flags < 16 → s.new.flags < 16 }
 {
     match instr {
-        Instr::AddReg { rd, rn, rm } => adds(m, s, next, rd, low(s, rn), low(s, rm), 0),
+        Instr::AddReg { rd, rn, rm } => adds(m, s, next, rd, (low(s, rn), low(s, rm)), 0),
         Instr::CmpImm { rd, imm } => compares(m, s, next, low(s, rd), u32::from(imm)),
         Instr::CmpReg { rdn, rm } => compares(m, s, next, low(s, rdn), low(s, rm)),
         Instr::LdrSp { rt, imm } => loads(m, s, next, rt, scaled(s.sp, imm, 4), 4),

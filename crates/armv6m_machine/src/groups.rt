@@ -63,12 +63,12 @@ pub fn execute_sum<M: Memory>(instr: Instr, next: u32, s: &mut Registers, m: &M)
 {
     match instr {
         Instr::SubReg { rd, rn, rm } => subs(m, s, next, rd, low(s, rn), low(s, rm)),
-        Instr::AddImm3 { rd, rn, imm } => adds(m, s, next, rd, low(s, rn), u32::from(imm), 0),
+        Instr::AddImm3 { rd, rn, imm } => adds(m, s, next, rd, (low(s, rn), u32::from(imm)), 0),
         Instr::SubImm3 { rd, rn, imm } => subs(m, s, next, rd, low(s, rn), u32::from(imm)),
-        Instr::AddImm8 { rd, imm } => adds(m, s, next, rd, low(s, rd), u32::from(imm), 0),
+        Instr::AddImm8 { rd, imm } => adds(m, s, next, rd, (low(s, rd), u32::from(imm)), 0),
         Instr::SubImm8 { rd, imm } => subs(m, s, next, rd, low(s, rd), u32::from(imm)),
-        Instr::Adc { rdn, rm } => adds(m, s, next, rdn, low(s, rdn), low(s, rm), carry(s)),
-        Instr::Sbc { rdn, rm } => adds(m, s, next, rdn, low(s, rdn), inverted(s, rm), carry(s)),
+        Instr::Adc { rdn, rm } => adds(m, s, next, rdn, (low(s, rdn), low(s, rm)), carry(s)),
+        Instr::Sbc { rdn, rm } => adds(m, s, next, rdn, (low(s, rdn), inverted(s, rm)), carry(s)),
         Instr::Rsb { rdn, rm } => subs(m, s, next, rdn, 0, low(s, rm)),
         Instr::Cmn { rdn, rm } => compares_sum(m, s, next, low(s, rdn), low(s, rm)),
         Instr::CmpHigh { rd, rm } => compares(m, s, next, reg(s, rd), reg(s, rm)),

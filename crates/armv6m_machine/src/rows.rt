@@ -228,22 +228,22 @@ pub fn branches<M: Memory>(
     }
 }
 
-/// A sum into a low register, and its flags.
+/// The sum of two words and a carry into a low register, and its flags.
 #[inline(always)]
 pub fn adds<M: Memory>(
     memory: &M,
     registers: &mut Registers,
     next: u32,
     rd: u8,
-    x: u32,
-    y: u32,
+    operands: (u32, u32),
     c: u32,
 ) -> Turn
     requires { (rd < 13) × (c < 2) }
     ensures row { Does M.memory memory.now
-        (adding next registers.old rd x y c) result registers.old registers.new memory.now }
+        (adding next registers.old rd operands.0 operands.1 c) result registers.old registers.new memory.now }
     ensures flags { registers.old.flags < 16 → registers.new.flags < 16 }
 {
+    let (x, y) = operands;
     writes(memory, registers, next, rd, add_with_carry(x, y, c))
 }
 
@@ -262,7 +262,7 @@ pub fn subs<M: Memory>(
         (subtracting next registers.old rd x y) result registers.old registers.new memory.now }
     ensures flags { registers.old.flags < 16 → registers.new.flags < 16 }
 {
-    adds(memory, registers, next, rd, x, u32::MAX - y, 1)
+    adds(memory, registers, next, rd, (x, u32::MAX - y), 1)
 }
 
 /// The flags of a difference.
