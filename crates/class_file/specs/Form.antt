@@ -10,8 +10,7 @@ use Rattle.class_file.specs.declared.class.ClassFile.{ClassFile}
 
 abbrev pub names_with : Option (List ℕ) → Option (List ℕ) → Option Names
 names_with (Some program) (Some script) = Some (record { program = program; script = script })
-names_with (Some program) None = None
-names_with None script = None
+names_with _ _ = None
 
 -- a board: `program` and `script` are texts, whatever they say
 abbrev pub names_of : Data → Option Names
@@ -19,9 +18,7 @@ names_of d = only_if (has_members 2 d) (names_with (text_of (codes "program") d)
 
 abbrev pub loss_with : Option ℕ → Option ℕ → Option ℕ → Option Loss
 loss_with (Some at) (Some sender) (Some hearer) = Some (record { at = at; «from» = sender; to = hearer })
-loss_with (Some at) (Some sender) None = None
-loss_with (Some at) None hearer = None
-loss_with None sender hearer = None
+loss_with _ _ _ = None
 
 -- a loss: `at` is a moment in milliseconds, up to the latest end; `from` and `to` are numbers of boards, up to the last one
 abbrev pub loss_of : Data → Option Loss
@@ -31,9 +28,7 @@ loss_of d =
 
 abbrev pub class_with : Option ℕ → Option (List Names) → Option (List Loss) → Option ClassFile
 class_with (Some end) (Some boards) (Some lose) = Some (record { end = end; boards = boards; lose = lose })
-class_with (Some end) (Some boards) None = None
-class_with (Some end) None lose = None
-class_with None boards lose = None
+class_with _ _ _ = None
 
 -- the members are `end`, in milliseconds up to the latest end, `boards` and `lose`
 abbrev pub class_of : Data → Option ClassFile

@@ -47,14 +47,9 @@ ends_of text b (p ∷ ps) = end_line_of p.standing b text ++ ends_of text (suc b
 -- two of these are the same
 abbrev pub stands_same : Standing → Standing → Bool
 stands_same Plays Plays = true
-stands_same Plays Panicked = false
-stands_same Plays Faulted = false
-stands_same Panicked Plays = false
 stands_same Panicked Panicked = true
-stands_same Panicked Faulted = false
-stands_same Faulted Plays = false
-stands_same Faulted Panicked = false
 stands_same Faulted Faulted = true
+stands_same _ _ = false
 
 -- how many stand so
 abbrev pub how_many_stand : Standing → List Player → ℕ

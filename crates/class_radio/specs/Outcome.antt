@@ -1,10 +1,10 @@
 -- How the run of a class of images ends.
-use Rattle.std.specs.Prelude.{◌≡◌, ℕ, ◌+◌, ◌≤◌, Bool, true, false, if◌then◌else◌, List, [], ◌∷◌, ◌++◌, length, map, Option, Some, None}
+use Rattle.std.specs.Prelude.{◌≡◌, ℕ, ◌+◌, ◌≤◌, Bool, true, false, if◌then◌else◌, List, [], ◌∷◌, ◌++◌, length, map, Option, Some}
 use Rattle.std.specs.List.{AllByRecursion}
 use Rattle.std.specs.declared.vec.Vec.{Vec}
 use Rattle.std.specs.declared.alloc.Global.{Global}
 use Rattle.sts_base.specs.Faults.{Rose}
-use Rattle.board_world.specs.Observations.{ByteList, End, Quietly, By_script, Panicked, Faulted}
+use Rattle.board_world.specs.Observations.{ByteList, End, Panicked, Faulted}
 use Rattle.board_world.specs.Board.{Board}
 use Rattle.bank_model.specs.Fibers.{Fiber, Shared}
 use Rattle.tool_io.specs.Putting.{Took, TookPart}
@@ -40,18 +40,12 @@ boards_of until ps = map (λ (p : Played Fiber Shared). (world_of until p).board
 
 -- how many boards ended by a panic, and by a fault
 abbrev pub is_panic : Option End → Bool
-is_panic None = false
-is_panic (Some Quietly) = false
-is_panic (Some By_script) = false
 is_panic (Some (Panicked code)) = true
-is_panic (Some (Faulted kind address)) = false
+is_panic _ = false
 
 abbrev pub is_fault : Option End → Bool
-is_fault None = false
-is_fault (Some Quietly) = false
-is_fault (Some By_script) = false
-is_fault (Some (Panicked code)) = false
 is_fault (Some (Faulted kind address)) = true
+is_fault _ = false
 
 abbrev pub how_many_end : (Option End → Bool) → List Board → ℕ
 how_many_end test [] = 0

@@ -17,7 +17,7 @@ use Rattle.class_world.specs.Keeping.{with_kept}
 use Rattle.class_steps.specs.Outlook.{Outlook, IsSeenAs, next_with}
 use Rattle.board_outside.specs.Moves.{Move, seen_of}
 use Rattle.board_run.specs.declared.end.Stop.{Stop}
-use Rattle.board_run.specs.declared.end.Stop.TheVariants.{Quiet, Script, Panic, Fault}
+use Rattle.board_run.specs.declared.end.Stop.TheVariants.{Panic, Fault}
 use Rattle.board_run.specs.Advancing.{IsWhole}
 use Rattle.board_run.specs.Going.{queued_all, next_moment, IsResting, Shows}
 use Rattle.board_run.specs.Ran.{IsMounted}
@@ -40,11 +40,9 @@ run_given setup script steps free = record { member = member_of setup free; scri
 
 -- how a player stands whose run has this end
 abbrev pub standing_of : Option Stop → Standing
-standing_of None = Plays
-standing_of (Some Quiet) = Plays
-standing_of (Some Script) = Plays
 standing_of (Some (Panic code)) = Panicked
 standing_of (Some (Fault fault address)) = Faulted
+standing_of _ = Plays
 
 -- It has this number and this budget, of which the rest is left while it plays, and tells how its run stands.
 pub record IsNumbered (number budget : ℕ) (p : Player) : Type 0 where
