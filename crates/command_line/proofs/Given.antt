@@ -16,8 +16,8 @@ use Rattle.std.specs.Box.{box_value}
 use Rattle.clap.proofs.WalkLemmas.{first_value-rows, one_text-rows}
 use Rattle.sts_words.specs.Numbers.{number_within}
 use Rattle.sts_words.specs.Orders.{most_budget}
-use Rattle.sts_words.specs.Words.{Said, a_budget, budget_part}
-use Rattle.sts_words.specs.Reading.{added}
+use Rattle.sts_words.specs.Words.{Said, a_budget}
+use Rattle.sts_words.specs.Reading.{budget_part, added}
 use Rattle.command_line.specs.Found.{Says, SpellsBudget, flag_text, text_at}
 
 -- ---- names

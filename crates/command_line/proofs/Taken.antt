@@ -13,8 +13,8 @@ use Rattle.sts_words.proofs.Laws.{same-text}
 use Rattle.clap.specs.Takes.{entered_passes, is_valid, built_takes, walk_passes, turn_passes, level_passes, is_given, settle_passes}
 use Rattle.clap.proofs.OnLiterals.{clap_on_literals}
 use Rattle.sts_words.specs.Orders.{Asked, order_view}
-use Rattle.sts_words.specs.Words.{Said, order_of, asked_by}
-use Rattle.sts_words.specs.Reading.{said_with, nothing}
+use Rattle.sts_words.specs.Words.{Said, asked_by, IsAskedBy}
+use Rattle.sts_words.specs.Reading.{order_of, said_with, nothing}
 use Rattle.sts_words.proofs.Laws.{said-from-nothing}
 use Rattle.command_line.specs.Found.{Says}
 use Rattle.command_line.specs.Tool.{tool_app}
@@ -228,3 +228,8 @@ same-order words m hand order e is matches asks =
     let asked = order-known hand (order_of words) e is in
     let both = taken-both words asked.0 asked.1 in
     asks both.command both.taken.rows both.said ((matches refl).1 ∙ both.taken.enters) both.taken.says ∙ both.asks ∙ sym asked.1
+
+-- where they aren't taken by hand, words ask for nothing
+pub none-asked : (words : List Text) (hand : Option Order) → is_some hand ≡ false → IsAskedBy words (option_map order_view hand) → IsAskedBy words None
+none-asked words None e asked = asked
+none-asked words (Some order) e asked = absurd (false≢true (sym e))

@@ -3,7 +3,7 @@ ghost use Rattle.std.specs.Prelude.{◌≡◌, IfOk, IfErr, IfSome, IsOk, None, 
 ghost use Rattle.std.specs.Option.{option_map};
 ghost use Rattle.clap.specs.Words.{HasMatchesOf, takes, kind_of};
 ghost use Rattle.sts_words.specs.Orders.{order_view, IsInRange};
-ghost use Rattle.sts_words.specs.Words.{order_of};
+ghost use Rattle.sts_words.specs.Words.{IsAskedBy};
 ghost use Rattle.command_line.specs.Tool.{tool_app};
 
 use crate::matches::order_in;
@@ -38,9 +38,9 @@ pub fn read_command_line<'a>(
     alloc: Global,
     words: &'a [String],
 ) -> Result<Option<Order<'a>>, NoMemory>
-    ensures order { IfOk result (λ order. option_map order_view order ≡ order_of (map string_bytes words.entry.now)) }
+    ensures order { IfOk result (λ order. IsAskedBy (map string_bytes words.entry.now) (option_map order_view order)) }
     ensures range { IfOk result (λ order. IfSome order IsInRange) }
-    ensures refused { order_of (map string_bytes words.entry.now) ≡ None → IsOk result }
+    ensures refused { IsAskedBy (map string_bytes words.entry.now) None → IsOk result }
 {
     if read_words(words).is_none() {
         return Ok(None);

@@ -5,18 +5,18 @@ use Rattle.hex_image.specs.Spells.{Spells}
 use Rattle.hex_image.proofs.Laws.{one_reading-of}
 use Rattle.sts_whole.specs.Laws.{OneAnswer}
 use Rattle.sts_words.specs.Orders.{Asked, check_program, build_program, run_program, run_image, run_at, run_class, run_big}
-use Rattle.run_tool.specs.Fetches.{ToldFiles, unfailing}
+use Rattle.run_tool.specs.Fetches.{Telling, ToldFiles, unfailing}
 use Rattle.run_tool.specs.Answers.{Answer, OfSink, status_of, status_number}
 use Rattle.run_tool.specs.Scripts.{OverScript, default_script}
 use Rattle.run_tool.specs.Big.{big_text}
-use Rattle.run_tool.specs.Check.{SaysAccepted, ChecksText}
-use Rattle.run_tool.specs.Build.{WritesImage, BuildsText}
-use Rattle.run_tool.specs.Run.{RunsProgram, RunsText}
-use Rattle.run_tool.specs.Runs.{RunsBoard}
+use Rattle.run_tool.specs.Check.{SaysAccepted}
+use Rattle.run_tool.specs.Build.{WritesImage}
+use Rattle.run_tool.specs.Run.{RunsProgram}
+use Rattle.run_tool.specs.Runs.{IsImageStatus, RunsBoard}
 use Rattle.run_tool.specs.RunHex.{RunsHex}
 use Rattle.run_tool.specs.Orders.{MayAnswer, IsStatusOf, CompletesCommand}
-use Rattle.run_tool.specs.Completeness.{HoldsScript, HoldsFiles, IsImageStatus, MayEndWith, IsComplete}
-use Rattle.run_tool.proofs.Headlines.{file-told, script-told, program-told, program-fits}
+use Rattle.run_tool.specs.Completeness.{HoldsScript, HoldsFiles, MayEndWith, IsComplete}
+use Rattle.run_tool.proofs.Headlines.{file-told, script-told, program-told, program-file-told, never}
 use Rattle.run_tool.proofs.ProgramStatuses.{program-number, run-number as program-end}
 use Rattle.run_tool.proofs.ToldAt.{due}
 use Rattle.run_tool.proofs.ToldClass.{class-due}
@@ -27,10 +27,7 @@ use Rattle.run_tool.proofs.Statuses.{run-number}
 abbrev number_of : Answer → ℕ
 number_of answer = status_number (status_of answer)
 
-never : ¬ ⊥
-never x = x
-
-module _ (one : OneAnswer) (told : List ℕ → Option (Option (List ℕ))) where
+module _ (one : OneAnswer) (told : Telling) where
   image-status : (script : Option (List ℕ)) (budget : ℕ) (text image : List ℕ) (number : ℕ) (answer : Answer) → Spells text image → HoldsScript told script → RunsHex (unfailing told) script budget text answer
       → number ≡ number_of answer → IsImageStatus number
   image-status script budget text image number answer spelled s (inl h) n =
@@ -38,20 +35,14 @@ module _ (one : OneAnswer) (told : List ℕ → Option (Option (List ℕ))) wher
   image-status script budget text image number answer spelled s (inr h) n = absurd ((one_reading-of text).not_both image h.0 spelled h.1)
 
   status : (order : Asked) (number : ℕ) (answer : Answer) → HoldsFiles told order → MayAnswer (unfailing told) (Some order) answer → number ≡ number_of answer → MayEndWith order number
-  status (check_program name) number answer h m n =
-      (let p = h.2 in n ∙ ap number_of (program-told one SaysAccepted h.0 p.0 p.1 answer p.2 (file-told ChecksText (unfailing told) name h.0 answer h.1 (program-fits h.0 p.0 p.1 p.2) never m)))
-  status (build_program name) number answer h m n =
-      (let p = h.2 in
-      let built = program-told one WritesImage h.0 p.0 p.1 answer p.2 (file-told BuildsText (unfailing told) name h.0 answer h.1 (program-fits h.0 p.0 p.1 p.2) never m) in
-      n ∙ ap number_of built.3)
+  status (check_program name) number answer h m n = n ∙ ap number_of (program-file-told one SaysAccepted (unfailing told) name h.0 h.1 answer never h.2 m)
+  status (build_program name) number answer h m n = (let built = program-file-told one WritesImage (unfailing told) name h.0 h.1 answer never h.2 m in n ∙ ap number_of built.3)
   status (run_program name script budget stats image) number answer h m n =
-      (let text = h.0.0 in
-      let p = h.0.2 in
-      let over = file-told (RunsText (unfailing told) script budget stats image) (unfailing told) name text answer h.0.1 (program-fits text p.0 p.1 p.2) never m in
-      let runs = program-told one (λ P texts. OverScript (unfailing told) script (λ read. RunsProgram P texts read budget stats image)) text p.0 p.1 answer p.2 over in
+      (let p = h.0 in
+      let runs = program-file-told one (λ P texts. OverScript (unfailing told) script (λ read. RunsProgram P texts read budget stats image)) (unfailing told) name p.0 p.1 answer never p.2 m in
       program-number p.1 p.0.texts h.1.0 budget stats image answer number (script-told (unfailing told) script (λ read. RunsProgram p.1 p.0.texts read budget stats image) h.1.0 answer never h.1.1 runs) n)
   status (run_image name script budget) number answer h m n =
-      (let t = h.0 in image-status script budget t.0 t.2.0 number answer t.2.1 h.1 (file-told (RunsHex (unfailing told) script budget) (unfailing told) name t.0 answer t.1 t.2.2 never m) n)
+      (let t = h.0 in image-status script budget t.1.0 t.0 number answer t.1.2.1 h.1 (file-told (RunsHex (unfailing told) script budget) (unfailing told) name t.1.0 answer t.1.1 t.1.2.0 never m) n)
   status (run_at name script arrivals budget) number answer h m n =
       (let r = due one told name script arrivals budget h.0 h.1 h.2 h.3 h.4 answer m in program-end _ number r.meets.faultless (n ∙ ap number_of r.is))
   status (run_class name budget) number answer h m n = class-number (class_of_sources h.0 h.1) budget answer number (class-due one told name budget h.0 h.1 h.2 answer m) n
@@ -64,4 +55,4 @@ module _ (one : OneAnswer) (told : List ℕ → Option (Option (List ℕ))) wher
   either asked order number e h (inr is) = inr is
 
 pub complete : (one : OneAnswer) (files : ToldFiles) (sink : OfSink) (asked : Option Asked) (number : ℕ) → CompletesCommand files sink asked number → IsComplete files sink asked number
-complete one files sink asked number c = λ order e h quiet calm. either one files.told asked order number e h (c quiet calm)
+complete one files sink asked number c = λ order e h fine. either one files.told asked order number e h (c fine)

@@ -1,6 +1,6 @@
 -- The statuses of calls in which nothing fails, and of commands.
 use Rattle.std.proofs.Common.{◌≡◌, ◌⊎◌, codes, ℕ, List, [], inl, inr, refl, sym, subst, ap, ◌∙◌, arith}
-use Rattle.std.specs.Prelude.{Option, Some, None, Bool, true, false}
+use Rattle.std.specs.Prelude.{Option, Some, None, Bool, true, false, IsSomeAnd}
 use Rattle.std.proofs.lemmas.Bool.{false≢true}
 use Rattle.board_world.specs.Observations.{ByteList, End, Quietly, By_script, Panicked, Faulted}
 use Rattle.board_world.specs.Invariants.{SoundEnd}
@@ -26,7 +26,7 @@ use Rattle.run_tool.specs.Programs.{OverProgram}
 use Rattle.run_tool.specs.Check.{SaysAccepted, ChecksText}
 use Rattle.run_tool.specs.Build.{WritesImage, BuildsText}
 use Rattle.run_tool.specs.Run.{RunsProgram, RunsText}
-use Rattle.run_tool.specs.Orders.{MayAnswer, CompletesCommand, AsksForImage, AsksForProgram, IsOfProgram, NamesScript}
+use Rattle.run_tool.specs.Orders.{MayAnswer, CompletesCommand, IsOfImage, IsOfProgram, NamesScript}
 use Rattle.sts_whole.specs.Programs.{source_after}
 use Rattle.sts_whole.proofs.Laws.{faultless}
 use Rattle.run_tool.proofs.Readings.{IsOnward, quietly, file-onwards, file-more}
@@ -62,9 +62,9 @@ onwards files files' (Some (run_big size budget stats)) answer on h = program-on
 module _ {B : Type 0} (sink : OfSink) (devices : OfDevices B) (lead : List ℕ) where
   ends-complete : (files : ToldFiles) (asked : Option Asked) (ending : Ending) (number : ℕ)
       → number ≡ ending_number ending → CommandEnds sink devices lead (MayAnswer files asked) ending → (ending ≡ Cut → Rose sink.failed sink.fails) → CompletesCommand files sink asked number
-  ends-complete files asked (Gave given) number e s cut = λ quiet calm. inl (s.0, onwards files (unfailing files.told) asked s.0 (quietly files quiet) s.1, e ∙ ap status_number s.2)
-  ends-complete files asked Cut number e s cut = λ quiet calm. absurd (calm (cut refl))
-  ends-complete files asked NoMemory number e s cut = λ quiet calm. inr e
+  ends-complete files asked (Gave given) number e s cut = λ fine. inl (s.0, onwards files (unfailing files.told) asked s.0 (quietly files fine.0) s.1, e ∙ ap status_number s.2)
+  ends-complete files asked Cut number e s cut = λ fine. absurd (fine.1 (cut refl))
+  ends-complete files asked NoMemory number e s cut = λ fine. inr e
 
 pub completes : {B : Type 0} {sink : OfSink} {devices : OfDevices B} {lead : List ℕ} (files : ToldFiles) (asked : Option Asked) (ending : Ending) (number : ℕ) → number ≡ ending_number ending
     → Concludes sink devices lead (MayAnswer files asked) ending → CompletesCommand files sink asked number
@@ -288,11 +288,11 @@ named files (run_class name budget) answer h = h
 named files (run_big size budget stats) answer h = h
 
 -- only words of `run-hex` have answers with these
-image-status : (files : ToldFiles) (asked : Asked) (text : List ℕ) (answer : Answer) → of_image (status_of answer) ≡ true → AnswersText files asked text answer → AsksForImage (Some asked)
+image-status : (files : ToldFiles) (asked : Asked) (text : List ℕ) (answer : Answer) → of_image (status_of answer) ≡ true → AnswersText files asked text answer → IsOfImage asked
 image-status files (check_program name) text answer i h = absurd (no-check of_image text answer refl refl i h)
 image-status files (build_program name) text answer i h = absurd (no-build of_image text answer refl refl i h)
 image-status files (run_program name script budget stats image) text answer i h = absurd (no-program-run of_image files script budget stats image text answer image-program refl refl refl refl refl i h)
-image-status files (run_image name script budget) text answer i h = (name, script, budget, refl)
+image-status files (run_image name script budget) text answer i h = tt
 image-status files (run_at name script arrivals budget) text answer i h = absurd (no-run-at of_image files script arrivals budget text answer image-program refl refl refl refl refl refl i h)
 image-status files (run_class name budget) text answer i h = absurd (two-ways false refl (in-class of_image refl refl refl refl refl refl refl refl files answer i budget text h).1)
 image-status files (run_big size budget stats) text answer i h = absurd (no-program-run of_image files None budget stats false (big_text size) answer image-program refl refl refl refl refl i h)
@@ -309,15 +309,15 @@ refused-status files (run_big size budget stats) text answer i h = tt
 
 -- a script is refused only where it is named
 program-script : (files : ToldFiles) (name : List ℕ) (script : Option (List ℕ)) (budget : ℕ) (stats image : Bool) (text : List ℕ) (answer : Answer)
-    → of_script (status_of answer) ≡ true → RunsText files script budget stats image text answer → NamesScript (Some (run_program name script budget stats image))
-program-script files name (Some script) budget stats image text answer i h = inl (name, script, budget, stats, image, refl)
+    → of_script (status_of answer) ≡ true → RunsText files script budget stats image text answer → NamesScript (run_program name script budget stats image)
+program-script files name (Some script) budget stats image text answer i h = refl
 program-script files name None budget stats image text answer i h =
     let p = accepted-one of_script (λ P texts. OverScript files None (λ read. RunsProgram P texts read budget stats image)) text answer refl i h in
     absurd (missed of_script of_run answer script-run (run-program (status_of answer) (program-status p.0 p.1 default_script budget stats image answer p.2)) i)
 
 hex-script : (files : ToldFiles) (name : List ℕ) (script : Option (List ℕ)) (budget : ℕ) (text : List ℕ) (answer : Answer) → of_script (status_of answer) ≡ true
-    → RunsHex files script budget text answer → NamesScript (Some (run_image name script budget))
-hex-script files name (Some script) budget text answer i h = inr (inl (name, script, budget, refl))
+    → RunsHex files script budget text answer → NamesScript (run_image name script budget)
+hex-script files name (Some script) budget text answer i h = refl
 hex-script files name None budget text answer i (inl h) = absurd (missed of_script of_run answer script-run (board-status h.0 default_script budget answer h.2) i)
 hex-script files name None budget text answer i (inr h) = absurd (not-said of_script answer status.ImageRefused _ i refl h.2)
 
@@ -327,13 +327,13 @@ big-script files budget stats text answer i h =
     let p = accepted-one of_script (λ P texts. OverScript files None (λ read. RunsProgram P texts read budget stats false)) text answer refl i h in
     missed of_script of_run answer script-run (run-program (status_of answer) (program-status p.0 p.1 default_script budget stats false answer p.2)) i
 
-script-status : (files : ToldFiles) (asked : Asked) (text : List ℕ) (answer : Answer) → of_script (status_of answer) ≡ true → AnswersText files asked text answer → NamesScript (Some asked)
+script-status : (files : ToldFiles) (asked : Asked) (text : List ℕ) (answer : Answer) → of_script (status_of answer) ≡ true → AnswersText files asked text answer → NamesScript asked
 script-status files (check_program name) text answer i h = absurd (no-check of_script text answer refl refl i h)
 script-status files (build_program name) text answer i h = absurd (no-build of_script text answer refl refl i h)
 script-status files (run_program name script budget stats image) text answer i h = program-script files name script budget stats image text answer i h
 script-status files (run_image name script budget) text answer i h = hex-script files name script budget text answer i h
-script-status files (run_at name script arrivals budget) text answer i h = inr (inr (inl (name, script, arrivals, budget, refl)))
-script-status files (run_class name budget) text answer i h = inr (inr (inr (name, budget, refl)))
+script-status files (run_at name script arrivals budget) text answer i h = tt
+script-status files (run_class name budget) text answer i h = tt
 script-status files (run_big size budget stats) text answer i h = absurd (big-script files budget stats (big_text size) answer i h)
 
 -- Of an answer to words, which is no answer to a file that isn't there or is too long, or to a folder that failed, something holds that holds of answers to texts.
@@ -346,17 +346,17 @@ module _ (t : Status → Bool) (a : t status.Missing ≡ false) (b : t status.To
   of-words : (asked : Asked) (answer : Answer) → t (status_of answer) ≡ true → MayAnswer files (Some asked) answer → Holds asked
   of-words asked answer i r = of-named asked (file_of asked) answer i (named files asked answer r)
 
-image-answer : (files : ToldFiles) (asked : Option Asked) (answer : Answer) → of_image (status_of answer) ≡ true → MayAnswer files asked answer → AsksForImage asked
+image-answer : (files : ToldFiles) (asked : Option Asked) (answer : Answer) → of_image (status_of answer) ≡ true → MayAnswer files asked answer → IsSomeAnd asked IsOfImage
 image-answer files None answer i r = absurd (not-said of_image answer status.Usage _ i refl r)
-image-answer files (Some asked) answer i r = of-words of_image refl refl refl (λ x. AsksForImage (Some x)) files (image-status files) asked answer i r
+image-answer files (Some asked) answer i r = of-words of_image refl refl refl IsOfImage files (image-status files) asked answer i r
 
-refused-answer : (files : ToldFiles) (asked : Option Asked) (answer : Answer) → of_refused (status_of answer) ≡ true → MayAnswer files asked answer → AsksForProgram asked
+refused-answer : (files : ToldFiles) (asked : Option Asked) (answer : Answer) → of_refused (status_of answer) ≡ true → MayAnswer files asked answer → IsSomeAnd asked IsOfProgram
 refused-answer files None answer i r = not-said of_refused answer status.Usage _ i refl r
 refused-answer files (Some asked) answer i r = of-words of_refused refl refl refl IsOfProgram files (refused-status files) asked answer i r
 
-script-answer : (files : ToldFiles) (asked : Option Asked) (answer : Answer) → of_script (status_of answer) ≡ true → MayAnswer files asked answer → NamesScript asked
+script-answer : (files : ToldFiles) (asked : Option Asked) (answer : Answer) → of_script (status_of answer) ≡ true → MayAnswer files asked answer → IsSomeAnd asked NamesScript
 script-answer files None answer i r = absurd (not-said of_script answer status.Usage _ i refl r)
-script-answer files (Some asked) answer i r = of-words of_script refl refl refl (λ x. NamesScript (Some x)) files (script-status files) asked answer i r
+script-answer files (Some asked) answer i r = of-words of_script refl refl refl NamesScript files (script-status files) asked answer i r
 
 -- the folder's failure is told only where its count of faults rose
 failed-file : (answers : List ℕ → Answer → Type 0) (files : ToldFiles) (name : List ℕ) (answer : Answer) → of_folder (status_of answer) ≡ true
@@ -426,7 +426,7 @@ failed-answer : (files : ToldFiles) (asked : Option Asked) (answer : Answer) →
 failed-answer files None answer i r = absurd (not-said of_folder answer status.Usage _ i refl r)
 failed-answer files (Some asked) answer i r = failed-named files asked (file_of asked) answer i (named files asked answer r)
 
--- the numbers 10, 12, 13 and 20 stand for one status each, and 11 for three
+-- the numbers 10, 12, 13 and 20 stand for one status each, and 11 for three; 22 stands for an answer that was cut
 refused-10 : (ending : Ending) → 10 ≡ ending_number ending → ending ≡ Gave status.Refused
 refused-10 (Gave status.Refused) e = refl
 refused-10 (Gave other) e = absurd (omega (arith, e))
@@ -459,23 +459,32 @@ failed-20 (Gave other) e = absurd (omega (arith, e))
 failed-20 Cut e = absurd (omega (arith, e))
 failed-20 NoMemory e = absurd (omega (arith, e))
 
+cut-22 : (ending : Ending) → 22 ≡ ending_number ending → ending ≡ Cut
+cut-22 (Gave status.Done) e = absurd (omega (arith, e))
+cut-22 (Gave other) e = absurd (omega (arith, e))
+cut-22 Cut e = refl
+cut-22 NoMemory e = absurd (omega (arith, e))
+
 module _ {B : Type 0} {sink : OfSink} {devices : OfDevices B} {lead : List ℕ} (files : ToldFiles) (asked : Option Asked) (ending : Ending) (number : ℕ) (n : number ≡ ending_number ending)
     (s : Concludes sink devices lead (MayAnswer files asked) ending) where
-  pub refused : number ≡ 10 → AsksForProgram asked
+  pub refused : number ≡ 10 → IsSomeAnd asked IsOfProgram
   refused is = (let k = given-answer (MayAnswer files asked) status.Refused ending (refused-10 ending (sym is ∙ n)) s in refused-answer files asked k.0 (ap of_refused k.2) k.1)
 
-  pub script-refused : number ≡ 11 → NamesScript asked
+  pub script-refused : number ≡ 11 → IsSomeAnd asked NamesScript
   script-refused is = elim (script-11 ending (sym is ∙ n)) [
     | inl e ↦ (let k = given-answer (MayAnswer files asked) status.ScriptRefused ending e s in script-answer files asked k.0 (ap of_script k.2) k.1)
     | inr (inl e) ↦ (let k = given-answer (MayAnswer files asked) status.ClassRefused ending e s in script-answer files asked k.0 (ap of_script k.2) k.1)
     | inr (inr e) ↦ (let k = given-answer (MayAnswer files asked) status.ArrivalsRefused ending e s in script-answer files asked k.0 (ap of_script k.2) k.1)
   ]
 
-  pub image-refused : number ≡ 12 → AsksForImage asked
+  pub image-refused : number ≡ 12 → IsSomeAnd asked IsOfImage
   image-refused is = (let k = given-answer (MayAnswer files asked) status.ImageRefused ending (refused-12 ending (sym is ∙ n)) s in image-answer files asked k.0 (ap of_image k.2) k.1)
 
-  pub faulted : number ≡ 13 → AsksForImage asked
+  pub faulted : number ≡ 13 → IsSomeAnd asked IsOfImage
   faulted is = (let k = given-answer (MayAnswer files asked) status.Faulted ending (faulted-13 ending (sym is ∙ n)) s in image-answer files asked k.0 (ap of_image k.2) k.1)
 
   pub folder-failed : number ≡ 20 → files.rose
   folder-failed is = (let k = given-answer (MayAnswer files asked) status.FolderFailed ending (failed-20 ending (sym is ∙ n)) s in failed-answer files asked k.0 (ap of_folder k.2) k.1)
+
+  pub sink-failed : number ≡ 22 → Rose sink.failed sink.fails
+  sink-failed is = s.cut (cut-22 ending (sym is ∙ n))

@@ -25,6 +25,8 @@ use Rattle.sts_meaning.specs.Steps.{source, source_start}
 use Rattle.event_script.specs.declared.script.Script.{Script}
 use Rattle.event_script.specs.declared.script.ScriptCode.{ScriptCode}
 use Rattle.event_script.specs.declared.script.ScriptCode.TheVariants.{NotJson}
+use Rattle.serde_json.specs.Data.{Data}
+use Rattle.event_script.specs.Json.{IsTree}
 use Rattle.event_script.specs.Form.{script_of}
 use Rattle.event_script.specs.World.{world_entries}
 use Rattle.event_script.specs.Verdict.{Tells, judged_form}
@@ -42,26 +44,31 @@ use Rattle.run_tool.specs.Files.{AnswersFetched, AnswersFile}
 use Rattle.run_tool.specs.Programs.{OverProgram}
 use Rattle.run_tool.specs.Scripts.{AnswersScript, OverScript, RefusesScript}
 use Rattle.run_tool.specs.Big.{big_text}
-use Rattle.run_tool.specs.Run.{RunsProgram, RunsText}
+use Rattle.run_tool.specs.Run.{RunsProgram}
 use Rattle.run_tool.specs.Statistics.{asked_behind}
 use Rattle.run_tool.specs.Orders.{MayAnswer, lead_of}
-use Rattle.run_tool.specs.Headline.{AskedRun, Aftermath, IsToldScript, AsksForRun, LacksMemory, source_board, IsTranscript, IsRunOfImage, Headline}
+use Rattle.run_tool.specs.Told.{IsToldProgram, IsToldScript}
+use Rattle.run_tool.specs.Headline.{AskedRun, Aftermath, AsksForRun, LacksMemory, source_board, IsTranscript, IsRunOfImage, Headline}
 
 -- the bytes of a file stand for one script, and then break no rule
 abbrev script_or : Script → Result Script ScriptCode → Script
 script_or other (Ok script) = script
 script_or other (Err code) = other
 
-same-verdict : (text : List ℕ) (a b : Result Script ScriptCode) → Tells text a → Tells text b → a ≡ b
-same-verdict text a b s t = sym s.judges ∙ ap (λ tree. judged_form (script_of tree)) (same_Some s.tree t.tree (sym s.is.reads ∙ t.is.reads)) ∙ t.judges
+-- a text has one tree at most
+pub one-tree : (text : List ℕ) (a b : Data) → IsTree text a → IsTree text b → a ≡ b
+one-tree text a b s t = same_Some a b (sym s.reads ∙ t.reads)
 
-one-script : (text : List ℕ) (a b : Script) → Tells text (Ok a) → Tells text (Ok b) → a ≡ b
+same-verdict : (text : List ℕ) (a b : Result Script ScriptCode) → Tells text a → Tells text b → a ≡ b
+same-verdict text a b s t = sym s.judges ∙ ap (λ tree. judged_form (script_of tree)) (one-tree text s.tree t.tree s.is t.is) ∙ t.judges
+
+pub one-script : (text : List ℕ) (a b : Script) → Tells text (Ok a) → Tells text (Ok b) → a ≡ b
 one-script text a b s t = ap (script_or a) (same-verdict text (Ok a) (Ok b) s t)
 
 script-no-code : (a : Script) (code : ScriptCode) (r : Result Script ScriptCode) → r ≡ Ok a → r ≡ Err code → ⊥
 script-no-code a code r e f = absurd (cc)
 
-not-refused : (text : List ℕ) (a : Script) (code : ScriptCode) → Tells text (Ok a) → RefusesScript text code → ⊥
+pub not-refused : (text : List ℕ) (a : Script) (code : ScriptCode) → Tells text (Ok a) → RefusesScript text code → ⊥
 not-refused text a NotJson s r = r s.tree s.is
 not-refused text a code s r = script-no-code a code (Ok a) refl (same-verdict text (Ok a) (Err code) s r)
 
@@ -81,6 +88,9 @@ pub file-told : (answers : List ℕ → Answer → Type 0) (files : ToldFiles) (
 file-told answers files name text answer e short calm h = text-told answers files name text answer e short calm h.0 h.1 h.2
 
 -- and the script that a file stands for by the answers over it
+pub never : ¬ ⊥
+never x = x
+
 text-scripts : (answers : Script → Answer → Type 0) (text : List ℕ) (script : Script) (answer : Answer) → Tells text (Ok script) → AnswersScript answers text answer → answers script answer
 text-scripts answers text script answer s (inl h) = subst (λ r. answers r answer) (one-script text h.0 script h.1 s) h.2
 text-scripts answers text script answer s (inr h) = absurd (not-refused text script h.0 s h.1)
@@ -89,7 +99,7 @@ pub script-told : (files : ToldFiles) (name : Option (List ℕ)) (answers : Scri
     → IsToldScript files.told name script → OverScript files name answers answer → answers script answer
 script-told files None answers script answer calm s h = subst (λ r. answers r answer) (sym s) h
 script-told files (Some name) answers script answer calm s h =
-    text-scripts answers s.0 script answer s.3 (file-told (AnswersScript answers) files name s.0 answer s.1 s.2 calm h)
+    text-scripts answers s.0 script answer s.2.1 (file-told (AnswersScript answers) files name s.0 answer s.1 s.2.0 calm h)
 
 -- the text of a program that is accepted is answered over that program, and isn't too long for a file
 pub program-told : (one : OneAnswer) (answers : TypedProgram → List ByteList → Answer → Type 0) (text : List ℕ) (tables : Tables) (P : TypedProgram) (answer : Answer) → Accepts text tables P
@@ -101,6 +111,12 @@ program-told one answers text tables P answer a (inr h) = absurd (one.either tex
 
 pub program-fits : (text : List ℕ) (tables : Tables) (P : TypedProgram) → Accepts text tables P → length text ≤ limit
 program-fits text tables P a = (let short : length text ≤ 65536 = a.read.tokenization.short in omega (arith, short))
+
+-- what is answered to the file of such a program
+pub program-file-told : (one : OneAnswer) (answers : TypedProgram → List ByteList → Answer → Type 0) (files : ToldFiles) (name : List ℕ) (tables : Tables) (P : TypedProgram) (answer : Answer) → ¬ files.rose
+    → IsToldProgram files.told name tables P → AnswersFile files name (OverProgram answers) answer → answers P tables.texts answer
+program-file-told one answers files name tables P answer calm p h =
+    program-told one answers p.0 tables P answer p.2 (file-told (OverProgram answers) files name p.0 answer p.1 (program-fits p.0 tables P p.2) calm h)
 
 -- the words and the unplugs of moves are those of what was seen and unplugged
 abbrev words_sent : List Observation → List PortMove
@@ -162,11 +178,10 @@ recast t budget stats image answer b c d r =
 module _ (one : OneAnswer) (files : ToldFiles) (calm : ¬ files.rose) where
   asked-answer : (asked : Option Asked) (t : AskedRun) → AsksForRun files.told asked t → (t.lead ≡ lead_of asked) × ((answer : Answer) → MayAnswer files asked answer → RunsAsked t answer)
   asked-answer (Some (run_program name script budget stats image)) t a = (
-    a.5,
-    λ answer h. recast t budget stats image answer a.4 a.6 a.7
-        (script-told files script (λ read. RunsProgram t.program t.tables.texts read budget stats image) t.script answer calm a.3
-        (program-told one (λ P texts. OverScript files script (λ read. RunsProgram P texts read budget stats image)) a.0 t.tables t.program answer a.2
-        (file-told (RunsText files script budget stats image) files name a.0 answer a.1 (program-fits a.0 t.tables t.program a.2) calm h))),
+    a.3,
+    λ answer h. recast t budget stats image answer a.2 a.4 a.5
+        (script-told files script (λ read. RunsProgram t.program t.tables.texts read budget stats image) t.script answer calm a.1
+        (program-file-told one (λ P texts. OverScript files script (λ read. RunsProgram P texts read budget stats image)) files name t.tables t.program answer calm a.0 h)),
   )
   asked-answer (Some (run_big size budget stats)) t a = (
     a.3,
@@ -224,6 +239,6 @@ module _ {B : Type 0} (sink : OfSink) (devices : OfDevices B) (t : AskedRun) (nu
 -- how a call ends leaves what the claim says
 pub headline : {B : Type 0} {sink : OfSink} {devices : OfDevices B} (files : ToldFiles) (asked : Option Asked) (number : ℕ) (one : OneAnswer) (ending : Ending) → number ≡ ending_number ending
     → Concludes sink devices (lead_of asked) (MayAnswer files asked) ending → Headline files sink devices asked number
-headline {B} {sink} {devices} files asked number one ending n s = λ t ask quiet calm had e. (
-    let answer = asked-answer one files quiet asked t ask in
-    ended sink devices t number had e (MayAnswer files asked) ending n (subst (λ lead. CommandEnds sink devices lead (MayAnswer files asked) ending) (sym answer.0) s.ends) s.cut calm answer.1)
+headline {B} {sink} {devices} files asked number one ending n s = λ t ask fine had e. (
+    let answer = asked-answer one files fine.0 asked t ask in
+    ended sink devices t number had e (MayAnswer files asked) ending n (subst (λ lead. CommandEnds sink devices lead (MayAnswer files asked) ending) (sym answer.0) s.ends) s.cut fine.1 answer.1)

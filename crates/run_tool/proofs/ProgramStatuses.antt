@@ -10,7 +10,7 @@ use Rattle.event_script.specs.declared.script.Script.{Script}
 use Rattle.sts_whole.specs.Accepting.{Accepts, IsRefusedFor}
 use Rattle.sts_whole.specs.Laws.{OneAnswer}
 use Rattle.sts_whole.proofs.Laws.{faultless}
-use Rattle.run_tool.specs.Fetches.{unfailing}
+use Rattle.run_tool.specs.Fetches.{Telling, unfailing}
 use Rattle.run_tool.specs.Answers.{Answer, status_of, status_number}
 use Rattle.run_tool.specs.Runs.{run_status}
 use Rattle.run_tool.specs.Scripts.{OverScript, default_script}
@@ -20,7 +20,7 @@ use Rattle.run_tool.specs.Build.{WritesImage}
 use Rattle.run_tool.specs.Run.{RunsProgram}
 use Rattle.run_tool.specs.RunAt.{RunsOutside}
 use Rattle.run_tool.specs.Laws.{ProgramStatuses}
-use Rattle.run_tool.specs.Completeness.{IsProgramStatus}
+use Rattle.run_tool.specs.Runs.{IsProgramStatus}
 
 abbrev number_of : Answer → ℕ
 number_of answer = status_number (status_of answer)
@@ -49,7 +49,7 @@ module _ (one : OneAnswer) (text : List ℕ) (answers : TypedProgram → List By
   denied code at number r (inl h) e = absurd (one.either text h.0.0 h.0.1 code at h.1 r)
   denied code at number r (inr h) e = e ∙ ap number_of h.2.3
 
-pub statuses : (one : OneAnswer) (told : List ℕ → Option (Option (List ℕ))) (text : List ℕ) → ProgramStatuses told text
+pub statuses : (one : OneAnswer) (told : Telling) (text : List ℕ) → ProgramStatuses told text
 statuses one told text = record {
   checked = λ tables P number a is. is.2 ∙ ap number_of (over one text SaysAccepted is.0 tables P a is.1).2;
   built = λ tables P number a is. is.2 ∙ ap number_of (over one text WritesImage is.0 tables P a is.1).2.3;

@@ -1,7 +1,6 @@
 -- What `run-at` comes to over files that are told.
-use Rattle.std.proofs.Common.{◌≡◌, ◌<◌, ◌⊎◌, ℕ, List, [], ◌++◌, length, inl, inr, refl, sym, ap, ◌∙◌, subst, arith}
+use Rattle.std.proofs.Common.{◌≡◌, ◌⊎◌, ℕ, List, [], ◌++◌, inl, inr, refl, sym, ap, ◌∙◌, subst}
 use Rattle.std.specs.Prelude.{Option, Some, Result, Ok, Err}
-use Rattle.serde_json.specs.Data.{Data}
 use Rattle.sts_base.specs.Faults.{Rose}
 use Rattle.sts_base.specs.declared.tables.Tables.{Tables}
 use Rattle.tool_io.specs.Putting.{Took}
@@ -10,12 +9,7 @@ use Rattle.board_world.specs.Board.{Board}
 use Rattle.board_world.specs.Simulation.{Paired}
 use Rattle.board_world.specs.Runs.{Placed}
 use Rattle.sts_syntax.specs.TypedTrees.{TypedProgram}
-use Rattle.event_script.specs.Json.{IsTree}
-use Rattle.event_script.specs.Verdict as script
-use Rattle.event_script.specs.Form.{script_of}
 use Rattle.event_script.specs.declared.script.Script.{Script}
-use Rattle.event_script.specs.declared.script.ScriptCode.{ScriptCode}
-use Rattle.event_script.specs.declared.script.ScriptCode.TheVariants as script_code
 use Rattle.arrival_file.specs.Verdict as arrival
 use Rattle.arrival_file.specs.Form.{arrivals_of}
 use Rattle.arrival_file.specs.declared.arrival.Arrival.{Arrival}
@@ -24,58 +18,25 @@ use Rattle.arrival_file.specs.declared.arrival.ArrivalCode.TheVariants as arriva
 use Rattle.irq_arrival.specs.SourceRuns.{source_at}
 use Rattle.sts_whole.specs.Laws.{OneAnswer}
 use Rattle.sts_words.specs.Orders.{Asked, run_at}
-use Rattle.run_tool.specs.declared.fetched.Fetched.{Fetched}
-use Rattle.run_tool.specs.declared.fetched.Fetched.TheVariants.{Text, Absent, Long, Failed}
 use Rattle.run_tool.specs.declared.ending.Ending.{Ending}
 use Rattle.run_tool.specs.declared.ending.Ending.TheVariants.{Gave, Cut, NoMemory}
-use Rattle.run_tool.specs.Fetches.{ToldFiles, unfailing, limit, MayFetch}
+use Rattle.run_tool.specs.Fetches.{Telling, ToldFiles, unfailing}
 use Rattle.run_tool.specs.Answers.{Answer, status_of, status_number, output_of, OfSink, OfDevices, Leaves, CommandEnds, Concludes, ending_number}
-use Rattle.run_tool.specs.Files.{AnswersFetched, AnswersFile}
 use Rattle.run_tool.specs.Runs.{run_status}
-use Rattle.run_tool.specs.Scripts.{AnswersScript, RefusesScript}
 use Rattle.run_tool.specs.Arrivals.{AnswersArrivals, RefusesArrivals}
-use Rattle.run_tool.specs.RunAt.{RunsProgramAt, RunsOnScript, RunsOutside, RunsTextAt}
+use Rattle.run_tool.specs.RunAt.{RunsProgramAt, RunsOnScript, RunsOutside}
 use Rattle.run_tool.specs.Orders.{MayAnswer, lead_of}
-use Rattle.run_tool.specs.HeadlineAt.{IsTold, AreTold, WritesAt, HeadlineAt}
+use Rattle.run_tool.specs.HeadlineAt.{AreTold, WritesAt, HeadlineAt}
 use Rattle.run_tool.proofs.Completing.{onwards}
+use Rattle.run_tool.proofs.Headlines.{one-tree, file-told, script-told, program-file-told, never}
 use Rattle.run_tool.proofs.ProgramStatuses.{run-number}
 
--- what is fetched of a file that is told is its bytes
-pub of-told : (told : List ℕ → Option (Option (List ℕ))) (name bytes : List ℕ) (answers : List ℕ → Answer → Type 0) (answer : Answer) → IsTold told name bytes → AnswersFile (unfailing told) name answers answer → answers bytes answer
-of-told told name bytes answers answer t h = by_fetched h.0 h.1 h.2
-  where
-    by_fetched : (fetched : Fetched) → MayFetch (unfailing told) name fetched → AnswersFetched answers fetched answer → answers bytes answer
-    by_fetched (Text it) m x = (let e : Some bytes ≡ Some it.items = m.0 (Some bytes) t.0 in let same : it.items ≡ bytes = cc in subst (λ l. answers l answer) same x)
-    by_fetched Absent m x = (let e = m (Some bytes) t.0 in absurd (cc))
-    by_fetched Long m x = (
-        let e = m (Some bytes) t.0 in
-        let is : Some bytes ≡ Some e.0 = e.1 in
-        let same : e.0 ≡ bytes = cc in
-        let long : limit < length bytes = subst (λ l. limit < length l) same e.2 in
-        let short = t.1 in
-        absurd (omega (arith, long, short)))
-    by_fetched Failed m x = absurd m
-
--- a text has one tree at most
-pub one-tree : (text : List ℕ) (a b : Data) → IsTree text a → IsTree text b → a ≡ b
-one-tree text a b s t = (let e : Some a ≡ Some b = sym s.reads ∙ t.reads in cc)
-
--- and one verdict
-pub one-script : (text : List ℕ) (a b : Result Script ScriptCode) → script.Tells text a → script.Tells text b → a ≡ b
-one-script text a b s t = sym s.judges ∙ (ap (λ d. script.judged_form (script_of d)) (one-tree text s.tree t.tree s.is t.is) ∙ t.judges)
-
+-- arrivals have one verdict
 one-list : (text : List ℕ) (a b : Result (List Arrival) ArrivalCode) → arrival.Tells text a → arrival.Tells text b → a ≡ b
 one-list text a b s t = sym s.judges ∙ (ap (λ d. arrival.judged_form (arrivals_of d)) (one-tree text s.tree t.tree s.is t.is) ∙ t.judges)
 
 pub not-both : {T C : Type 0} (read : T) (code : C) → Ok read ≡ Err code → ⊥
 not-both read code e = cc
-
-pub script-stands : (text : List ℕ) (read : Script) (code : ScriptCode) → script.Tells text (Ok read) → RefusesScript text code → ⊥
-script-stands text read script_code.NotJson s r = r s.tree s.is
-script-stands text read script_code.NotScript s r = not-both read script_code.NotScript (one-script text _ _ s r)
-script-stands text read script_code.OutOfOrder s r = not-both read script_code.OutOfOrder (one-script text _ _ s r)
-script-stands text read script_code.PastEnd s r = not-both read script_code.PastEnd (one-script text _ _ s r)
-script-stands text read script_code.TooMany s r = not-both read script_code.TooMany (one-script text _ _ s r)
 
 list-stands : (text : List ℕ) (come : List Arrival) (code : ArrivalCode) → arrival.Tells text (Ok come) → RefusesArrivals text code → ⊥
 list-stands text come arrival_code.NotJson s r = r s.tree s.is
@@ -86,33 +47,20 @@ list-stands text come arrival_code.TooMany s r = not-both come arrival_code.TooM
 pub same-read : {T C : Type 0} (x y : T) (r : Result T C) → r ≡ Ok x → r ≡ Ok y → x ≡ y
 same-read x y r e h = cc
 
-module _ (one : OneAnswer) (told : List ℕ → Option (Option (List ℕ))) (name script_name arrivals_name : List ℕ) (budget : ℕ) (tables : Tables) (P : TypedProgram) (read : Script) (come : List Arrival)
+module _ (one : OneAnswer) (told : Telling) (name script_name arrivals_name : List ℕ) (budget : ℕ) (tables : Tables) (P : TypedProgram) (read : Script) (come : List Arrival)
     (n : AreTold told name script_name arrivals_name tables P read come) where
   -- the answer over these arrivals
-  over-these : (answer : Answer) → AnswersArrivals (λ list. RunsProgramAt P tables.texts read list budget) n.arrivals_text answer → RunsProgramAt P tables.texts read come budget answer
+  over-these : (answer : Answer) → AnswersArrivals (λ list. RunsProgramAt P tables.texts read list budget) n.arrivals.0 answer → RunsProgramAt P tables.texts read come budget answer
   over-these answer (inl x) =
-      subst (λ list. RunsProgramAt P tables.texts read list budget answer) (same-read x.0 come (Ok come) (sym (one-list n.arrivals_text (Ok x.0) (Ok come) x.1 n.arrivals_are)) refl) x.2
-  over-these answer (inr x) = absurd (list-stands n.arrivals_text come x.0 n.arrivals_are x.1)
-
-  -- over this script
-  on-this : (answer : Answer) → AnswersScript (RunsOnScript (unfailing told) arrivals_name budget P tables.texts) n.script_text answer → RunsProgramAt P tables.texts read come budget answer
-  on-this answer (inl x) =
-      over-these answer (of-told told arrivals_name n.arrivals_text (AnswersArrivals (λ list. RunsProgramAt P tables.texts read list budget)) answer n.arrivals_told
-      (subst (λ it. RunsOnScript (unfailing told) arrivals_name budget P tables.texts it answer) (same-read x.0 read (Ok read) (sym (one-script n.script_text (Ok x.0) (Ok read) x.1 n.script_is)) refl) x.2))
-  on-this answer (inr x) = absurd (script-stands n.script_text read x.0 n.script_is x.1)
-
-  -- over this program
-  of-this : (answer : Answer) → RunsTextAt (unfailing told) script_name arrivals_name budget n.text answer → RunsProgramAt P tables.texts read come budget answer
-  of-this answer (inl h) =
-      let same = one.program n.text tables h.0.0 P h.0.1 n.accepted h.1 in
-      let there : RunsOutside (unfailing told) script_name arrivals_name budget P tables.texts answer =
-      subst (λ (t : Tables). RunsOutside (unfailing told) script_name arrivals_name budget P t.texts answer) (sym same.0)
-      (subst (λ (Q : TypedProgram). RunsOutside (unfailing told) script_name arrivals_name budget Q h.0.0.texts answer) (sym same.1) h.2) in
-      on-this answer (of-told told script_name n.script_text (AnswersScript (RunsOnScript (unfailing told) arrivals_name budget P tables.texts)) answer n.script_told there)
-  of-this answer (inr h) = absurd (one.either n.text tables P h.0.0 h.0.1 n.accepted h.1)
+      subst (λ list. RunsProgramAt P tables.texts read list budget answer) (same-read x.0 come (Ok come) (sym (one-list n.arrivals.0 (Ok x.0) (Ok come) x.1 n.arrivals.2.1)) refl) x.2
+  over-these answer (inr x) = absurd (list-stands n.arrivals.0 come x.0 n.arrivals.2.1 x.1)
 
   pub due : (answer : Answer) → MayAnswer (unfailing told) (Some (run_at name script_name arrivals_name budget)) answer → RunsProgramAt P tables.texts read come budget answer
-  due answer h = of-this answer (of-told told name n.text (RunsTextAt (unfailing told) script_name arrivals_name budget) answer n.text_told h)
+  due answer h =
+      let files = unfailing told in
+      let there : RunsOutside files script_name arrivals_name budget P tables.texts answer = program-file-told one (RunsOutside files script_name arrivals_name budget) files name tables P answer never n.program h in
+      let on_it : RunsOnScript files arrivals_name budget P tables.texts read answer = script-told files (Some script_name) (RunsOnScript files arrivals_name budget P tables.texts) read answer never n.script there in
+      over-these answer (file-told (AnswersArrivals (λ list. RunsProgramAt P tables.texts read list budget)) files arrivals_name n.arrivals.0 answer n.arrivals.1 n.arrivals.2.0 never on_it)
 
   module _ {B : Type 0} (sink : OfSink) (devices : OfDevices B) where
     writes : (answer : Answer) (number : ℕ) → RunsProgramAt P tables.texts read come budget answer → Took sink.had sink.has (output_of answer) → Leaves devices answer → number ≡ status_number (status_of answer)
@@ -151,6 +99,6 @@ module _ (one : OneAnswer) (told : List ℕ → Option (Option (List ℕ))) (nam
 -- what a call comes to that ended so
 pub headline-at : (one : OneAnswer) {B : Type 0} {sink : OfSink} {devices : OfDevices B} (files : ToldFiles) (asked : Option Asked) (ending : Ending) (number : ℕ) → number ≡ ending_number ending
     → Concludes sink devices (lead_of asked) (MayAnswer files asked) ending → HeadlineAt files sink devices asked number
-headline-at one {B} {sink} {devices} files asked ending number e s = λ name script_name arrivals_name budget tables P read come is n quiet calm.
+headline-at one {B} {sink} {devices} files asked ending number e s = λ name script_name arrivals_name budget tables P read come is n fine.
     by-ending one files.told name script_name arrivals_name budget tables P read come n sink devices files.rose ending number e
-    (subst (λ o. CommandEnds sink devices (lead_of o) (MayAnswer files o) ending) is s.ends) s.cut quiet calm
+    (subst (λ o. CommandEnds sink devices (lead_of o) (MayAnswer files o) ending) is s.ends) s.cut fine.0 fine.1

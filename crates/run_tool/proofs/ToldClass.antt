@@ -20,7 +20,7 @@ use Rattle.sts_words.specs.Orders.{Asked, run_class}
 use Rattle.run_tool.specs.declared.ending.Ending.{Ending}
 use Rattle.run_tool.specs.declared.ending.Ending.TheVariants.{Gave, Cut, NoMemory}
 use Rattle.run_tool.specs.Answers.{Answer, status_of, status_number, output_of, OfSink, OfDevices, Leaves, CommandEnds, Concludes, ending_number}
-use Rattle.run_tool.specs.Fetches.{ToldFiles, unfailing}
+use Rattle.run_tool.specs.Fetches.{Telling, ToldFiles, unfailing}
 use Rattle.run_tool.specs.ClassFiles.{RefusesClass}
 use Rattle.run_tool.specs.ClassBoards.{BoardSource, OverBoardProgram, Unfit, no_script, other_end, IsUnfit, AnswersBoardScript, OverBoardScript, OverBoard, OverBoards}
 use Rattle.run_tool.specs.Class.{class_of_sources, RunsClass, RunsFile, RunsClassText}
@@ -28,7 +28,8 @@ use Rattle.run_tool.specs.Orders.{MayAnswer, lead_of}
 use Rattle.run_tool.specs.HeadlineClass.{IsToldBoard, IsToldClass, WritesWhole, WritesCut, HeadlineClass}
 use Rattle.run_tool.proofs.Completing.{onwards}
 use Rattle.run_tool.proofs.ClassStatuses.{status-by-number}
-use Rattle.run_tool.proofs.ToldAt.{of-told, one-tree, one-script, script-stands, not-both, same-read}
+use Rattle.run_tool.proofs.Headlines.{one-tree, one-script, not-refused, file-told, program-fits, never}
+use Rattle.run_tool.proofs.ToldAt.{not-both, same-read}
 
 -- a text of a class has one verdict
 one-class : (text : List ℕ) (a b : Result ClassFile ClassCode) → class.Tells text a → class.Tells text b → a ≡ b
@@ -44,29 +45,29 @@ class-stands text file class_code.EndDiffers s r = not-both file class_code.EndD
 abbrev over : (BoardSource → Answer → Type 0) → Tables → TypedProgram → Script → Answer → Type 0
 over answers tables P script = answers (record { program = P; tables = tables; script = script })
 
-module _ (one : OneAnswer) (told : List ℕ → Option (Option (List ℕ))) (until : ℕ) where
+module _ (one : OneAnswer) (told : Telling) (until : ℕ) where
   -- the answers over a board that is told
   board-due : (b : ℕ) (names : Names) (board : BoardSource) (answers : BoardSource → Answer → Type 0) (answer : Answer) → IsToldBoard told until names board → OverBoard (unfailing told) until b names answers answer → answers board answer
-  board-due b names board answers answer n h = of_program (of-told told names.program n.text (OverBoardProgram b (λ tables P. OverBoardScript (unfailing told) until b names.script (over answers tables P))) answer n.text_told h)
+  board-due b names board answers answer n h = of_program (file-told (OverBoardProgram b (λ tables P. OverBoardScript (unfailing told) until b names.script (over answers tables P))) (unfailing told) names.program n.program.0 answer n.program.1 (program-fits n.program.0 board.tables board.program n.program.2) never h)
     where
-      same_as : (script : Script) → scripts.Tells n.script_text (Ok script) → script ≡ board.script
-      same_as script s = same-read script board.script (Ok board.script) (sym (one-script n.script_text (Ok script) (Ok board.script) s n.script_is)) refl
+      same_as : (script : Script) → scripts.Tells n.script.0 (Ok script) → script ≡ board.script
+      same_as script s = one-script n.script.0 script board.script s n.script.2.1
 
-      serves : (cause : Unfit) → IsUnfit until n.script_text cause → ⊥
-      serves (no_script code) x = script-stands n.script_text board.script code n.script_is x
+      serves : (cause : Unfit) → IsUnfit until n.script.0 cause → ⊥
+      serves (no_script code) x = not-refused n.script.0 board.script code n.script.2.1 x
       serves (other_end script) x = x.1 (ap (λ (s : Script). s.end) (same_as script x.0) ∙ n.ends)
 
-      of_script : AnswersBoardScript b until (over answers board.tables board.program) n.script_text answer → answers board answer
+      of_script : AnswersBoardScript b until (over answers board.tables board.program) n.script.0 answer → answers board answer
       of_script (inl x) = subst (λ s. over answers board.tables board.program s answer) (same_as x.0 x.1.0) x.2
       of_script (inr x) = absurd (serves x.0 x.1)
 
-      of_program : OverBoardProgram b (λ tables P. OverBoardScript (unfailing told) until b names.script (over answers tables P)) n.text answer → answers board answer
+      of_program : OverBoardProgram b (λ tables P. OverBoardScript (unfailing told) until b names.script (over answers tables P)) n.program.0 answer → answers board answer
       of_program (inl x) =
-          (let same = one.program n.text board.tables x.0.0 board.program x.0.1 n.accepted x.1 in
-          of_script (of-told told names.script n.script_text (AnswersBoardScript b until (over answers board.tables board.program)) answer n.script_told
+          (let same = one.program n.program.0 board.tables x.0.0 board.program x.0.1 n.program.2 x.1 in
+          of_script (file-told (AnswersBoardScript b until (over answers board.tables board.program)) (unfailing told) names.script n.script.0 answer n.script.1 n.script.2.0 never
           (subst (λ (t : Tables). OverBoardScript (unfailing told) until b names.script (over answers t board.program) answer) (sym same.0)
           (subst (λ (P : TypedProgram). OverBoardScript (unfailing told) until b names.script (over answers x.0.0 P) answer) (sym same.1) x.2))))
-      of_program (inr x) = absurd (one.either n.text board.tables board.program x.0.0 x.0.1 n.accepted x.1)
+      of_program (inr x) = absurd (one.either n.program.0 board.tables board.program x.0.0 x.0.1 n.program.2 x.1)
 
   boards-due : (b : ℕ) (names : List Names) (boards : List BoardSource) (answers : List BoardSource → Answer → Type 0) (answer : Answer) → Paired (IsToldBoard told until) names boards
       → OverBoards (unfailing told) until b names answers answer → answers boards answer
@@ -76,16 +77,16 @@ module _ (one : OneAnswer) (told : List ℕ → Option (Option (List ℕ))) (unt
   boards-due b (n ∷ names) (s ∷ boards) answers answer p h =
       boards-due (suc b) names boards (λ bs. answers (s ∷ bs)) answer p.1 (board-due b n s (λ board. OverBoards (unfailing told) until (suc b) names (λ bs. answers (board ∷ bs))) answer p.0 h)
 
-module _ (one : OneAnswer) (told : List ℕ → Option (Option (List ℕ))) (name : List ℕ) (budget : ℕ) (file : ClassFile) (boards : List BoardSource) (n : IsToldClass told name file boards) where
-  of-file : (answer : Answer) → RunsClassText (unfailing told) budget n.text answer → RunsClass (class_of_sources file boards) budget answer
+module _ (one : OneAnswer) (told : Telling) (name : List ℕ) (budget : ℕ) (file : ClassFile) (boards : List BoardSource) (n : IsToldClass told name file boards) where
+  of-file : (answer : Answer) → RunsClassText (unfailing told) budget n.is.0 answer → RunsClass (class_of_sources file boards) budget answer
   of-file answer (inl x) =
       (let there : RunsFile (unfailing told) budget file answer =
-      subst (λ (f : ClassFile). RunsFile (unfailing told) budget f answer) (same-read x.0 file (Ok file) (sym (one-class n.text (Ok x.0) (Ok file) x.1 n.is)) refl) x.2 in
+      subst (λ (f : ClassFile). RunsFile (unfailing told) budget f answer) (same-read x.0 file (Ok file) (sym (one-class n.is.0 (Ok x.0) (Ok file) x.1 n.is.2.1)) refl) x.2 in
       boards-due one told file.end 0 file.boards boards (λ bs. RunsClass (class_of_sources file bs) budget) answer n.are there)
-  of-file answer (inr x) = absurd (class-stands n.text file x.0 n.is x.1)
+  of-file answer (inr x) = absurd (class-stands n.is.0 file x.0 n.is.2.1 x.1)
 
   pub class-due : (answer : Answer) → MayAnswer (unfailing told) (Some (run_class name budget)) answer → RunsClass (class_of_sources file boards) budget answer
-  class-due answer h = of-file answer (of-told told name n.text (RunsClassText (unfailing told) budget) answer n.text_told h)
+  class-due answer h = of-file answer (file-told (RunsClassText (unfailing told) budget) (unfailing told) name n.is.0 answer n.is.1 n.is.2.0 never h)
 
   module _ {B : Type 0} (sink : OfSink) (devices : OfDevices B) where
     -- what a call comes to that gave this answer
@@ -115,5 +116,5 @@ module _ (one : OneAnswer) (told : List ℕ → Option (Option (List ℕ))) (nam
 -- what a call comes to that ended so
 pub headline-class : (one : OneAnswer) {B : Type 0} {sink : OfSink} {devices : OfDevices B} (files : ToldFiles) (asked : Option Asked) (ending : Ending) (number : ℕ) → number ≡ ending_number ending
     → Concludes sink devices (lead_of asked) (MayAnswer files asked) ending → HeadlineClass files sink devices asked number
-headline-class one {B} {sink} {devices} files asked ending number e s = λ name budget file boards is n quiet calm.
-    by-ending one files.told name budget file boards n sink devices files.rose ending number e (subst (λ o. CommandEnds sink devices (lead_of o) (MayAnswer files o) ending) is s.ends) s.cut quiet calm
+headline-class one {B} {sink} {devices} files asked ending number e s = λ name budget file boards is n fine.
+    by-ending one files.told name budget file boards n sink devices files.rose ending number e (subst (λ o. CommandEnds sink devices (lead_of o) (MayAnswer files o) ending) is s.ends) s.cut fine.0 fine.1

@@ -11,6 +11,7 @@ use Rattle.run_tool.specs.declared.ending.Status.TheVariants.{Done, Usage, Panic
 use Rattle.run_tool.specs.declared.ending.Ending.{Ending}
 use Rattle.run_tool.specs.declared.ending.Ending.TheVariants.{Gave, Cut, NoMemory}
 use Rattle.board_ports.specs.Account.{Account}
+use Rattle.run_tool.specs.Fetches.{ToldFiles}
 
 -- What a call is to give behind the line that its command begins with: an output, over which the devices stay; or a run, by what it showed and
 -- unplugged in order, and by what is written behind the lines of that.
@@ -57,6 +58,10 @@ pub record OfSink : Type 0 where
 
 abbrev pub of_sink : {S : Type 0} → (taken : S → Option (List ℕ)) → (faults : S → ℕ) → S → S → OfSink
 of_sink taken faults old new = record { had = taken old; has = taken new; failed = faults old; fails = faults new }
+
+-- No count of faults rose, of the folder or of the sink.
+abbrev pub NothingFails : ToldFiles → OfSink → Type 0
+NothingFails files sink = ¬ files.rose × ¬ Rose sink.failed sink.fails
 
 -- Of devices, before and behind a call: which stood in which place; and what is known of each.
 pub record OfDevices (B : Type 0) : Type 0 where

@@ -5,17 +5,21 @@ use Rattle.sts_base.specs.Faults.{Rose}
 use Rattle.run_tool.specs.declared.fetched.Fetched.{Fetched}
 use Rattle.run_tool.specs.declared.fetched.Fetched.TheVariants.{Text, Absent, Long, Failed}
 
--- What a folder tells of its files, by their names, where a call begins; and that its count of faults rose in the call.
+-- what is told of files by their names: nothing, that there is none, or its bytes
+abbrev pub Telling : Type 0
+Telling = List ℕ → Option (Option (List ℕ))
+
+-- What a folder tells of its files where a call begins; and that its count of faults rose in the call.
 pub record ToldFiles : Type 1 where
-  pub told : List ℕ → Option (Option (List ℕ))
+  pub told : Telling
   pub rose : Type 0
 
 -- the same of a folder, before and after a call, of which `holds` tells the content and `faults` how often it had failed
-abbrev pub told_by : {S : Type 0} → (S → List ℕ → Option (Option (List ℕ))) → (S → ℕ) → S → S → ToldFiles
+abbrev pub told_by : {S : Type 0} → (S → Telling) → (S → ℕ) → S → S → ToldFiles
 told_by holds faults old new = record { told = holds old; rose = Rose (faults old) (faults new) }
 
 -- a folder that tells this, and doesn't fail
-abbrev pub unfailing : (List ℕ → Option (Option (List ℕ))) → ToldFiles
+abbrev pub unfailing : Telling → ToldFiles
 unfailing told = record { told = told; rose = ⊥ }
 
 -- the most bytes that a file may have

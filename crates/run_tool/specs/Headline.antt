@@ -1,5 +1,5 @@
 -- The claim of the whole: what the command writes and does where words ask for the run of a program. No machine is spoken of but in the second part, `IsRunOfImage`.
-use Rattle.std.specs.Prelude.{◌≡◌, ◌≤◌, ◌*◌, ◌==◌, ◌⊎◌, ◌++◌, ℕ, Bool, true, false, List, [], length, flat_map, Option, Some, None, Ok}
+use Rattle.std.specs.Prelude.{◌≡◌, ◌≤◌, ◌*◌, ◌==◌, ◌⊎◌, ◌++◌, ℕ, Bool, true, false, List, [], flat_map, Option, Some}
 use Rattle.std.specs.List.{list_any}
 use Rattle.sts_base.specs.declared.tables.Tables.{Tables}
 use Rattle.board_world.specs.Transcript.{lines, closing_line}
@@ -9,15 +9,14 @@ use Rattle.board_outside.specs.Ports.{words_of}
 use Rattle.sts_syntax.specs.TypedTrees.{TypedProgram}
 use Rattle.hex_image.specs.Laws.{IsImage}
 use Rattle.event_script.specs.declared.script.Script.{Script}
-use Rattle.event_script.specs.Verdict.{Tells}
 use Rattle.sts_implements.specs.Images.{ImageImplements, LooksLike}
 use Rattle.board_run.specs.Ran.{world_after, IsExecuted}
 use Rattle.sts_whole.specs.Accepting.{Accepts}
 use Rattle.sts_whole.specs.Programs.{source_after}
 use Rattle.sts_words.specs.Orders.{Asked, run_program, run_big}
-use Rattle.sts_base.specs.Faults.{Rose}
-use Rattle.run_tool.specs.Answers.{OfSink, OfDevices, status_number}
-use Rattle.run_tool.specs.Fetches.{ToldFiles, limit}
+use Rattle.run_tool.specs.Answers.{OfSink, NothingFails, OfDevices, status_number}
+use Rattle.run_tool.specs.Fetches.{ToldFiles, Telling}
+use Rattle.run_tool.specs.Told.{IsToldProgram, IsToldScript}
 use Rattle.run_tool.specs.Scripts.{default_script}
 use Rattle.run_tool.specs.Big.{big_line, big_text}
 use Rattle.run_tool.specs.Statistics.{asked_behind}
@@ -33,17 +32,11 @@ pub record AskedRun : Type 0 where
   pub stats : Bool  -- whether the statistics are asked for behind it,
   pub image : Bool  -- and the image behind them
 
--- The script that words name, over a folder that tells this of its files: the one that the file stands for; without a name it has no entries, and ends at 1000 ms.
-abbrev pub IsToldScript : (List ℕ → Option (Option (List ℕ))) → Option (List ℕ) → Script → Type 0
-IsToldScript told None script = script ≡ default_script
-IsToldScript told (Some name) script =
-    (text : List ℕ) × (told name ≡ Some (Some text)) × (length text ≤ limit) × Tells text (Ok script)
-
 -- The words ask for a run, over a folder that tells this of its files: `run P` or `run P S`, or `big N`.
-abbrev pub AsksForRun : (List ℕ → Option (Option (List ℕ))) → Option Asked → AskedRun → Type 0
+abbrev pub AsksForRun : Telling → Option Asked → AskedRun → Type 0
 AsksForRun told (Some (run_program name script budget stats image)) r =
-    (text : List ℕ) × (told name ≡ Some (Some text)) × Accepts text r.tables r.program
-    × IsToldScript told script r.script × (r.budget ≡ budget) × (r.lead ≡ []) × (r.stats ≡ stats) × (r.image ≡ image)
+    IsToldProgram told name r.tables r.program × IsToldScript told script r.script
+    × (r.budget ≡ budget) × (r.lead ≡ []) × (r.stats ≡ stats) × (r.image ≡ image)
 AsksForRun told (Some (run_big size budget stats)) r =
     Accepts (big_text size) r.tables r.program × (r.script ≡ default_script)
     × (r.budget ≡ budget) × (r.lead ≡ big_line size) × (r.stats ≡ stats) × (r.image ≡ false)
@@ -90,8 +83,7 @@ pub record IsRunOfImage (r : AskedRun) (steps executed : ℕ) (image : List ℕ)
 -- program's source, and that is the run of an image.
 abbrev pub Headline : {B : Type 0} → ToldFiles → OfSink → OfDevices B → Option Asked → ℕ → Type 0
 Headline {B} files sink devices asked number =
-    (r : AskedRun) → AsksForRun files.told asked r → ¬ files.rose → ¬ Rose sink.failed sink.fails
-    → (had : List ℕ) → sink.had ≡ Some had
+    (r : AskedRun) → AsksForRun files.told asked r → NothingFails files sink → (had : List ℕ) → sink.had ≡ Some had
     → (written : List ℕ) × (sink.has ≡ Some (had ++ written))
     × (let a : Aftermath B = record { status = number; written = written; devices = devices } in
     LacksMemory r a ⊎ ((steps executed : ℕ) × (image : List ℕ)

@@ -9,35 +9,23 @@ use Rattle.board_outside.specs.Moves.{Move, HasMet}
 use Rattle.board_outside.specs.Ports.{DevicesAfter}
 use Rattle.tool_io.specs.Putting.{Took}
 use Rattle.sts_syntax.specs.TypedTrees.{TypedProgram}
-use Rattle.event_script.specs.Verdict as script
 use Rattle.event_script.specs.declared.script.Script.{Script}
-use Rattle.arrival_file.specs.Verdict as arrival
+use Rattle.arrival_file.specs.Verdict.{Tells}
 use Rattle.arrival_file.specs.World.{world_arrivals}
 use Rattle.arrival_file.specs.declared.arrival.Arrival.{Arrival}
 use Rattle.irq_arrival.specs.SourceRuns.{source_at}
-use Rattle.sts_whole.specs.Accepting.{Accepts}
 use Rattle.sts_words.specs.Orders.{Asked, run_at}
-use Rattle.sts_base.specs.Faults.{Rose}
-use Rattle.run_tool.specs.Answers.{OfSink, OfDevices, status_number}
-use Rattle.run_tool.specs.Fetches.{ToldFiles, limit}
-use Rattle.run_tool.specs.Runs.{run_status}
-
--- a file of which the folder tells these bytes, within the limit
-abbrev pub IsTold : (List ℕ → Option (Option (List ℕ))) → List ℕ → List ℕ → Type 0
-IsTold told name bytes = (told name ≡ Some (Some bytes)) × (length bytes ≤ limit)
+use Rattle.run_tool.specs.Answers.{OfSink, NothingFails, OfDevices, status_number}
+use Rattle.run_tool.specs.Fetches.{ToldFiles, Telling}
+use Rattle.run_tool.specs.Told.{IsToldWithin, IsToldProgram, IsToldScript}
+use Rattle.run_tool.specs.Runs.{run_status, IsProgramStatus}
 
 -- The files of these names are told: a text that is accepted as this program, a script, and arrivals.
-pub record AreTold (told : List ℕ → Option (Option (List ℕ))) (name script_name arrivals_name : List ℕ)
+pub record AreTold (told : Telling) (name script_name arrivals_name : List ℕ)
     (tables : Tables) (P : TypedProgram) (read : Script) (come : List Arrival) : Type 0 where
-  pub text : List ℕ
-  pub text_told : IsTold told name text
-  pub accepted : Accepts text tables P
-  pub script_text : List ℕ
-  pub script_told : IsTold told script_name script_text
-  pub script_is : script.Tells script_text (Ok read)
-  pub arrivals_text : List ℕ
-  pub arrivals_told : IsTold told arrivals_name arrivals_text
-  pub arrivals_are : arrival.Tells arrivals_text (Ok come)
+  pub program : IsToldProgram told name tables P
+  pub script : IsToldScript told (Some script_name) read
+  pub arrivals : IsToldWithin told arrivals_name (λ text. Tells text (Ok come))
 
 -- The program's meaning comes so far on the script: after these counted steps, no more than the budget, and one at least for each 512 of it where it hasn't ended. The first
 -- so many arrivals come behind steps that don't fall, each at most at its number and near it; each whose number is below the budget comes, unless the program has ended
@@ -62,7 +50,7 @@ pub record WritesAt {B : Type 0} (sink : OfSink) (devices : OfDevices B) (P : Ty
   pub written : Took sink.had sink.has (transcript_of (source_at P texts read comes.places comes.steps).board)
   pub met : DevicesAfter devices.account comes.moves devices.before devices.behind
   pub status : number ≡ status_number (run_status (source_at P texts read comes.places comes.steps).board.end)
-  pub ended : (number ≡ 0) ⊎ ((number ≡ 3) ⊎ (number ≡ 4))
+  pub ended : IsProgramStatus number
 
 -- For words that ask for it, over files that are told, and where no count of faults rose: there was no memory, and nothing was written and no device changed; or that.
 abbrev pub HeadlineAt : {B : Type 0} → ToldFiles → OfSink → OfDevices B → Option Asked → ℕ → Type 0
@@ -71,6 +59,6 @@ HeadlineAt files sink devices asked number =
     (tables : Tables) (P : TypedProgram) (read : Script) (come : List Arrival)
     → asked ≡ Some (run_at name script_name arrivals_name budget)
     → AreTold files.told name script_name arrivals_name tables P read come
-    → ¬ files.rose → ¬ Rose sink.failed sink.fails
+    → NothingFails files sink
     → ((number ≡ 30) × Took sink.had sink.has [] × (devices.behind ≡ devices.before))
     ⊎ WritesAt sink devices P tables.texts read come budget number

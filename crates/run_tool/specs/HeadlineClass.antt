@@ -5,40 +5,29 @@ use Rattle.board_world.specs.Observations.{ByteList}
 use Rattle.board_world.specs.Simulation.{Paired}
 use Rattle.sts_meaning.specs.Frames.{Activity}
 use Rattle.sts_meaning.specs.Heaps.{Heap}
-use Rattle.event_script.specs.Verdict as script
-use Rattle.class_file.specs.Verdict as class
+use Rattle.class_file.specs.Verdict.{Tells}
 use Rattle.class_file.specs.declared.class.Names.{Names}
 use Rattle.class_file.specs.declared.class.ClassFile.{ClassFile}
 use Rattle.class_world.specs.Classes.{Class}
 use Rattle.class_steps.specs.Texts.{boards_now, HasWholeText}
 use Rattle.class_meaning.specs.Meaning.{HasTextCutWithin}
 use Rattle.class_radio.specs.Outcome.{is_panic, how_many_end}
-use Rattle.sts_whole.specs.Accepting.{Accepts}
 use Rattle.sts_words.specs.Orders.{Asked, run_class}
-use Rattle.sts_base.specs.Faults.{Rose}
-use Rattle.run_tool.specs.Answers.{OfSink, OfDevices}
-use Rattle.run_tool.specs.Fetches.{ToldFiles}
-use Rattle.run_tool.specs.HeadlineAt.{IsTold}
+use Rattle.run_tool.specs.Answers.{OfSink, NothingFails, OfDevices}
+use Rattle.run_tool.specs.Fetches.{ToldFiles, Telling}
+use Rattle.run_tool.specs.Told.{IsToldWithin, IsToldProgram, IsToldScript}
 use Rattle.run_tool.specs.ClassBoards.{BoardSource}
 use Rattle.run_tool.specs.Class.{class_of_sources}
 
 -- The files of a board are told: a text that is accepted as its program, and its script, which ends with the class.
-pub record IsToldBoard (told : List ℕ → Option (Option (List ℕ))) (until : ℕ)
-    (names : Names) (board : BoardSource) : Type 0 where
-  pub text : List ℕ
-  pub text_told : IsTold told names.program text
-  pub accepted : Accepts text board.tables board.program
-  pub script_text : List ℕ
-  pub script_told : IsTold told names.script script_text
-  pub script_is : script.Tells script_text (Ok board.script)
+pub record IsToldBoard (told : Telling) (until : ℕ) (names : Names) (board : BoardSource) : Type 0 where
+  pub program : IsToldProgram told names.program board.tables board.program
+  pub script : IsToldScript told (Some names.script) board.script
   pub ends : board.script.end ≡ until
 
 -- The file of this name is told and stands for a class, and so are the files of its boards.
-pub record IsToldClass (told : List ℕ → Option (Option (List ℕ))) (name : List ℕ)
-    (file : ClassFile) (boards : List BoardSource) : Type 0 where
-  pub text : List ℕ
-  pub text_told : IsTold told name text
-  pub is : class.Tells text (Ok file)
+pub record IsToldClass (told : Telling) (name : List ℕ) (file : ClassFile) (boards : List BoardSource) : Type 0 where
+  pub is : IsToldWithin told name (λ text. Tells text (Ok file))
   pub are : Paired (IsToldBoard told file.end) file.boards boards
 
 -- First. Each board's source has ended, within so many counted steps of its own, and what was written is the whole text of their class. The status is 3 where some board panicked, else 0.
@@ -58,7 +47,7 @@ abbrev pub HeadlineClass : {B : Type 0} → ToldFiles → OfSink → OfDevices B
 HeadlineClass files sink devices asked number =
     (name : List ℕ) (budget : ℕ) (file : ClassFile) (boards : List BoardSource)
     → asked ≡ Some (run_class name budget) → IsToldClass files.told name file boards
-    → ¬ files.rose → ¬ Rose sink.failed sink.fails
+    → NothingFails files sink
     → (devices.behind ≡ devices.before)
     × (((number ≡ 30) × Took sink.had sink.has [])
     ⊎ ((text : ByteList) × Took sink.had sink.has text

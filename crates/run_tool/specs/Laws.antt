@@ -1,5 +1,5 @@
 -- What holds of the answers.
-use Rattle.std.specs.Prelude.{◌≡◌, ◌⊎◌, ℕ, Bool, List, Option, None}
+use Rattle.std.specs.Prelude.{◌≡◌, ℕ, Bool, List, Option, None}
 use Rattle.sts_base.specs.declared.refused.Code.{Code}
 use Rattle.sts_base.specs.declared.tables.Tables.{Tables}
 use Rattle.board_world.specs.Observations.{ByteList}
@@ -9,9 +9,10 @@ use Rattle.sts_whole.specs.Accepting.{Accepts, IsRefusedFor}
 use Rattle.hex_image.specs.declared.refused.HexCode.{HexCode}
 use Rattle.hex_image.specs.Spells.{Spells, Breaks}
 use Rattle.run_tool.specs.Answers.{Answer, output_of}
-use Rattle.run_tool.specs.Fetches.{unfailing}
+use Rattle.run_tool.specs.Fetches.{Telling, unfailing}
 use Rattle.run_tool.specs.Check.{ChecksText}
 use Rattle.run_tool.specs.Build.{BuildsText}
+use Rattle.run_tool.specs.Runs.{IsProgramStatus, IsImageStatus}
 use Rattle.run_tool.specs.Run.{RunsText}
 use Rattle.run_tool.specs.RunAt.{RunsTextAt}
 use Rattle.run_tool.specs.RunHex.{RunsHex}
@@ -19,22 +20,22 @@ use Rattle.run_tool.specs.Orders.{IsStatusOf}
 
 -- The status of an answer of `run-hex` is that of a run where the text spells an image and no script is named, and that of a refusal where the text
 -- breaks a rule.
-pub record HexStatuses (told : List ℕ → Option (Option (List ℕ))) (budget : ℕ) (text : List ℕ) : Type 0 where
+pub record HexStatuses (told : Telling) (budget : ℕ) (text : List ℕ) : Type 0 where
   pub spelled : (image : List ℕ) (number : ℕ) → Spells text image
       → IsStatusOf (RunsHex (unfailing told) None budget text) number
-      → (number ≡ 0) ⊎ ((number ≡ 3) ⊎ ((number ≡ 4) ⊎ (number ≡ 13)))
+      → IsImageStatus number
   pub broken : (script : Option (List ℕ)) (code : HexCode) (number : ℕ) → Breaks text code
       → IsStatusOf (RunsHex (unfailing told) script budget text) number → number ≡ 12
 
 -- The status of an answer over a program is that of what was done, or of a run, where the text is accepted and no script is named, and that of a refusal where the text isn't accepted.
-pub record ProgramStatuses (told : List ℕ → Option (Option (List ℕ))) (text : List ℕ) : Type 0 where
+pub record ProgramStatuses (told : Telling) (text : List ℕ) : Type 0 where
   pub checked : (tables : Tables) (P : TypedProgram) (number : ℕ) → Accepts text tables P
       → IsStatusOf (ChecksText text) number → number ≡ 0
   pub built : (tables : Tables) (P : TypedProgram) (number : ℕ) → Accepts text tables P
       → IsStatusOf (BuildsText text) number → number ≡ 0
   pub ran : (tables : Tables) (P : TypedProgram) (budget : ℕ) (stats image : Bool) (number : ℕ) → Accepts text tables P
       → IsStatusOf (RunsText (unfailing told) None budget stats image text) number
-      → (number ≡ 0) ⊎ ((number ≡ 3) ⊎ (number ≡ 4))
+      → IsProgramStatus number
   pub not_checked : (code : Code) (at number : ℕ) → IsRefusedFor text code at
       → IsStatusOf (ChecksText text) number → number ≡ 10
   pub not_built : (code : Code) (at number : ℕ) → IsRefusedFor text code at

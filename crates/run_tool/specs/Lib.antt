@@ -17,6 +17,7 @@ pub mod ClassFiles
 pub mod ClassBoards
 pub mod Class
 pub mod Orders
+pub mod Told
 pub mod Headline
 pub mod Completeness
 pub mod Wanted

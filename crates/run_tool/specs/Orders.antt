@@ -1,9 +1,8 @@
 -- Which answers are due to the words.
-use Rattle.std.specs.Prelude.{◌≡◌, ◌⊎◌, ℕ, Bool, false, List, [], codes, Option, Some, None}
+use Rattle.std.specs.Prelude.{◌≡◌, ◌⊎◌, ℕ, false, List, [], codes, Option, Some, None, IsSome}
 use Rattle.run_tool.specs.declared.ending.Status.TheVariants.{Usage}
 use Rattle.sts_words.specs.Orders.{Asked, check_program, build_program, run_program, run_image, run_at, run_class, run_big}
-use Rattle.sts_base.specs.Faults.{Rose}
-use Rattle.run_tool.specs.Answers.{Answer, OfSink, says, status_of, status_number}
+use Rattle.run_tool.specs.Answers.{Answer, OfSink, NothingFails, says, status_of, status_number}
 use Rattle.run_tool.specs.Fetches.{ToldFiles, unfailing}
 use Rattle.run_tool.specs.Files.{AnswersFile}
 use Rattle.run_tool.specs.Big.{big_line, big_text}
@@ -41,31 +40,22 @@ IsStatusOf may number = (answer : Answer) × may answer × (number ≡ status_nu
 -- Where no count of faults rises the status is that of an answer that is due where nothing fails, but for want of memory.
 abbrev pub CompletesCommand : ToldFiles → OfSink → Option Asked → ℕ → Type 0
 CompletesCommand files sink asked number =
-    ¬ files.rose → ¬ Rose sink.failed sink.fails
-    → IsStatusOf (MayAnswer (unfailing files.told) asked) number ⊎ (number ≡ 30)
+    NothingFails files sink → IsStatusOf (MayAnswer (unfailing files.told) asked) number ⊎ (number ≡ 30)
 
--- the words ask to check, build or run a program, or the one of `big`, or those of a class
+-- Words ask to check, build or run a program, or the one of `big`, or those of a class;
 abbrev pub IsOfProgram : Asked → Type 0
 IsOfProgram (run_image name script budget) = ⊥
 IsOfProgram other = Unit {0}
 
-abbrev pub AsksForProgram : Option Asked → Type 0
-AsksForProgram None = ⊥
-AsksForProgram (Some asked) = IsOfProgram asked
+-- or to run an image.
+abbrev pub IsOfImage : Asked → Type 0
+IsOfImage (run_image name script budget) = Unit {0}
+IsOfImage other = ⊥
 
--- the words ask to run an image
-abbrev pub AsksForImage : Option Asked → Type 0
-AsksForImage asked =
-    (name : List ℕ) × (script : Option (List ℕ)) × (budget : ℕ) × (asked ≡ Some (run_image name script budget))
-
--- the words name a script behind a program or an image, which arrivals may follow; or a class, whose file names scripts
-abbrev pub NamesScript : Option Asked → Type 0
-NamesScript asked =
-    ((name : List ℕ) × (script : List ℕ) × (budget : ℕ) × (stats : Bool) × (image : Bool)
-    × (asked ≡ Some (run_program name (Some script) budget stats image)))
-    ⊎ (((name : List ℕ) × (script : List ℕ) × (budget : ℕ)
-    × (asked ≡ Some (run_image name (Some script) budget)))
-    ⊎ (((name : List ℕ) × (script : List ℕ) × (arrivals : List ℕ) × (budget : ℕ)
-    × (asked ≡ Some (run_at name script arrivals budget)))
-    ⊎ ((name : List ℕ) × (budget : ℕ)
-    × (asked ≡ Some (run_class name budget)))))
+-- They name a script behind a program or an image, which arrivals may follow; or a class, whose file names scripts.
+abbrev pub NamesScript : Asked → Type 0
+NamesScript (run_program name script budget stats image) = IsSome script
+NamesScript (run_image name script budget) = IsSome script
+NamesScript (run_at name script arrivals budget) = Unit {0}
+NamesScript (run_class name budget) = Unit {0}
+NamesScript other = ⊥

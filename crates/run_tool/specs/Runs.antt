@@ -1,5 +1,5 @@
 -- A run of an image as an answer.
-use Rattle.std.specs.Prelude.{◌≡◌, ℕ, List, Option, Some, None}
+use Rattle.std.specs.Prelude.{◌≡◌, ◌⊎◌, ℕ, List, Option, Some, None}
 use Rattle.board_world.specs.Observations.{End, Quietly, By_script, Panicked, Faulted}
 use Rattle.board_world.specs.Transcript.{closing_line}
 use Rattle.board_world.specs.Board.{Board}
@@ -17,6 +17,13 @@ run_status (Some Quietly) = status.Done
 run_status (Some By_script) = status.Done
 run_status (Some (Panicked code)) = status.Panicked
 run_status (Some (Faulted kind address)) = status.Faulted
+
+-- the number of the status of a program's run: it ended, or by a panic, or its budget did first; an image's run may also end by a fault
+abbrev pub IsProgramStatus : ℕ → Type 0
+IsProgramStatus number = (number ≡ 0) ⊎ ((number ≡ 3) ⊎ (number ≡ 4))
+
+abbrev pub IsImageStatus : ℕ → Type 0
+IsImageStatus number = (number ≡ 0) ⊎ ((number ≡ 3) ⊎ ((number ≡ 4) ⊎ (number ≡ 13)))
 
 -- The answer is the run of an image on a script within a budget of instructions: for some list of free words what the bank machine's world has met
 -- after the instructions executed, and its closing line, with the status of the run's end.

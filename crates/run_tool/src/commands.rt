@@ -1,14 +1,15 @@
 // The top call.
-ghost use Rattle.std.specs.Prelude.{◌≡◌, ◌≤◌, List, ℕ, Some, None, map, string_bytes};
+ghost use Rattle.std.specs.Prelude.{◌≡◌, ◌≤◌, List, ℕ, Some, None, map, string_bytes, IsSomeAnd};
+ghost use Rattle.std.specs.declared.option.Option.{Option};
 ghost use Rattle.sts_base.specs.Faults.{Rose};
 ghost use Rattle.run_tool.specs.declared.ending.Ending.{Ending};
-ghost use Rattle.sts_words.specs.Words.{order_of};
+ghost use Rattle.sts_words.specs.Words.{IsAskedBy};
 ghost use Rattle.run_tool.specs.Answers.{Concludes, ending_number, of_devices, of_sink};
-ghost use Rattle.run_tool.specs.Orders.{CompletesCommand, AsksForImage, AsksForProgram, NamesScript, lead_of, MayAnswer};
+ghost use Rattle.run_tool.specs.Orders.{CompletesCommand, IsOfImage, IsOfProgram, NamesScript, lead_of, MayAnswer};
 ghost use Rattle.run_tool.specs.inner.Handed.{FoundNoMemory};
 ghost use Rattle.run_tool.specs.Headline.{Headline};
 ghost use Rattle.run_tool.specs.Completeness.{IsComplete};
-ghost use Rattle.sts_words.specs.Orders.{IsInRange, order_view};
+ghost use Rattle.sts_words.specs.Orders.{Asked, IsInRange, order_view};
 ghost use Rattle.run_tool.specs.HeadlineAt.{HeadlineAt};
 ghost use Rattle.run_tool.specs.HeadlineClass.{HeadlineClass};
 ghost use Rattle.run_tool.specs.Wanted.{HasAsked, Wants};
@@ -100,15 +101,15 @@ fn perform<F: Folder, K: Sink, D: Device>(
     out: &mut K,
     places: &mut Vec<Option<D>>,
 ) -> Ending
-    ensures answer { Concludes (of_sink K.taken K.faults out.old out.new)
+    ensures answer { (asked : Option Asked) → IsAskedBy (map string_bytes words.now) asked
+        → Concludes (of_sink K.taken K.faults out.old out.new)
         (of_devices D.account places.old.items places.new.items)
-        (lead_of (order_of (map string_bytes words.now)))
-        (MayAnswer (told_by F.holds F.faults folder.old folder.new) (order_of (map string_bytes words.now))) result }
-    ensures asked { HasAsked F.asked folder.old folder.new
-        (Wants (told_by F.holds F.faults folder.old folder.new) (FoundNoMemory result)
-        (order_of (map string_bytes words.now))) }
+        (lead_of asked) (MayAnswer (told_by F.holds F.faults folder.old folder.new) asked) result }
+    ensures asked { (asked : Option Asked) → IsAskedBy (map string_bytes words.now) asked
+        → HasAsked F.asked folder.old folder.new
+        (Wants (told_by F.holds F.faults folder.old folder.new) (FoundNoMemory result) asked) }
     ensures folder_later { F.faults folder.old ≤ F.faults folder.new }
-    ensures untouched { order_of (map string_bytes words.now) ≡ None → folder.new ≡ folder.old }
+    ensures untouched { IsAskedBy (map string_bytes words.now) None → folder.new ≡ folder.old }
 {
     match read_command_line(alloc, words) {
         Ok(None) => say(out, Status::Usage, b"usage\n"),
@@ -168,37 +169,40 @@ pub fn sts_main<F: Folder, K: Sink>(
     out: &mut K,
     plugs: &mut Vec<Option<Box<dyn Device>>>,
 ) -> u8
-    ensures headline { Headline (told_by F.holds F.faults folder.old folder.new)
-        (of_sink K.taken K.faults out.old out.new)
-        (of_devices ⟦<Box<dyn Device> as Device>⟧.account plugs.old.items plugs.new.items)
-        (order_of (map string_bytes words.now)) result }
-    ensures ends { (ending : Ending) × (result ≡ ending_number ending)
+    ensures headline { (asked : Option Asked) → IsAskedBy (map string_bytes words.now) asked
+        → Headline (told_by F.holds F.faults folder.old folder.new) (of_sink K.taken K.faults out.old out.new)
+        (of_devices ⟦<Box<dyn Device> as Device>⟧.account plugs.old.items plugs.new.items) asked result }
+    ensures ends { (asked : Option Asked) → IsAskedBy (map string_bytes words.now) asked
+        → (ending : Ending) × (result ≡ ending_number ending)
         × Concludes (of_sink K.taken K.faults out.old out.new)
         (of_devices ⟦<Box<dyn Device> as Device>⟧.account plugs.old.items plugs.new.items)
-        (lead_of (order_of (map string_bytes words.now)))
-        (MayAnswer (told_by F.holds F.faults folder.old folder.new) (order_of (map string_bytes words.now))) ending }
-    ensures completes { CompletesCommand (told_by F.holds F.faults folder.old folder.new)
-        (of_sink K.taken K.faults out.old out.new) (order_of (map string_bytes words.now)) result }
-    ensures complete { IsComplete (told_by F.holds F.faults folder.old folder.new)
-        (of_sink K.taken K.faults out.old out.new) (order_of (map string_bytes words.now)) result }
-    ensures headline_at { HeadlineAt (told_by F.holds F.faults folder.old folder.new)
-        (of_sink K.taken K.faults out.old out.new)
-        (of_devices ⟦<Box<dyn Device> as Device>⟧.account plugs.old.items plugs.new.items)
-        (order_of (map string_bytes words.now)) result }
-    ensures headline_class { HeadlineClass (told_by F.holds F.faults folder.old folder.new)
-        (of_sink K.taken K.faults out.old out.new)
-        (of_devices ⟦<Box<dyn Device> as Device>⟧.account plugs.old.items plugs.new.items)
-        (order_of (map string_bytes words.now)) result }
-    ensures refused { result ≡ 10 → AsksForProgram (order_of (map string_bytes words.now)) }
-    ensures script_refused { result ≡ 11 → NamesScript (order_of (map string_bytes words.now)) }
-    ensures image_refused { result ≡ 12 → AsksForImage (order_of (map string_bytes words.now)) }
-    ensures faulted { result ≡ 13 → AsksForImage (order_of (map string_bytes words.now)) }
+        (lead_of asked) (MayAnswer (told_by F.holds F.faults folder.old folder.new) asked) ending }
+    ensures completes { (asked : Option Asked) → IsAskedBy (map string_bytes words.now) asked
+        → CompletesCommand (told_by F.holds F.faults folder.old folder.new)
+        (of_sink K.taken K.faults out.old out.new) asked result }
+    ensures complete { (asked : Option Asked) → IsAskedBy (map string_bytes words.now) asked
+        → IsComplete (told_by F.holds F.faults folder.old folder.new)
+        (of_sink K.taken K.faults out.old out.new) asked result }
+    ensures headline_at { (asked : Option Asked) → IsAskedBy (map string_bytes words.now) asked
+        → HeadlineAt (told_by F.holds F.faults folder.old folder.new) (of_sink K.taken K.faults out.old out.new)
+        (of_devices ⟦<Box<dyn Device> as Device>⟧.account plugs.old.items plugs.new.items) asked result }
+    ensures headline_class { (asked : Option Asked) → IsAskedBy (map string_bytes words.now) asked
+        → HeadlineClass (told_by F.holds F.faults folder.old folder.new) (of_sink K.taken K.faults out.old out.new)
+        (of_devices ⟦<Box<dyn Device> as Device>⟧.account plugs.old.items plugs.new.items) asked result }
+    ensures refused { (asked : Option Asked) → IsAskedBy (map string_bytes words.now) asked
+        → result ≡ 10 → IsSomeAnd asked IsOfProgram }
+    ensures script_refused { (asked : Option Asked) → IsAskedBy (map string_bytes words.now) asked
+        → result ≡ 11 → IsSomeAnd asked NamesScript }
+    ensures image_refused { (asked : Option Asked) → IsAskedBy (map string_bytes words.now) asked
+        → result ≡ 12 → IsSomeAnd asked IsOfImage }
+    ensures faulted { (asked : Option Asked) → IsAskedBy (map string_bytes words.now) asked
+        → result ≡ 13 → IsSomeAnd asked IsOfImage }
     ensures folder_failed { result ≡ 20 → Rose (F.faults folder.old) (F.faults folder.new) }
     ensures sink_failed { result ≡ 22 → Rose (K.faults out.old) (K.faults out.new) }
-    ensures untouched { order_of (map string_bytes words.now) ≡ None → folder.new ≡ folder.old }
-    ensures asked { HasAsked F.asked folder.old folder.new
-        (Wants (told_by F.holds F.faults folder.old folder.new) (result ≡ 30)
-        (order_of (map string_bytes words.now))) }
+    ensures untouched { IsAskedBy (map string_bytes words.now) None → folder.new ≡ folder.old }
+    ensures asked { (asked : Option Asked) → IsAskedBy (map string_bytes words.now) asked
+        → HasAsked F.asked folder.old folder.new
+        (Wants (told_by F.holds F.faults folder.old folder.new) (result ≡ 30) asked) }
 {
     one_answer();
     perform(alloc, words, folder, out, plugs).number()

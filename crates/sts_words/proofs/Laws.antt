@@ -3,3 +3,5 @@
 pub use Rattle.sts_words.proofs.Parts.{one-word, said-from-nothing, all-said}
 -- what words that are equal to a text, or begin with one, are
 pub use Rattle.sts_words.proofs.Spelled.{same-text, joined-text, Plain, name-plain}
+-- what words ask for is what the reader gives, and is one
+pub use Rattle.sts_words.proofs.Spelled.{is-asked, asked-is, some-asked, one-asked}

@@ -6,8 +6,8 @@ use Rattle.std.proofs.lemmas.List.{drop_all}
 use Rattle.std.proofs.lemmas.Bool.{false≢true, le-leb, lt-leb, leb-true, leb-false}
 use Rattle.std.specs.Option.{option_map}
 use Rattle.std.specs.Str.{bytes_eq}
-use Rattle.sts_words.specs.Words.{budget_part, part_of, Part, a_name, a_budget, the_stats, the_image, Said, names_of, budgets_of, count_of_stats, count_of_images, said_by, parts_from, in_front}
-use Rattle.sts_words.specs.Reading.{nothing, added, added_all, said_with, next}
+use Rattle.sts_words.specs.Words.{Part, a_name, a_budget, the_stats, the_image, Said, names_of, budgets_of, count_of_stats, count_of_images, said_by}
+use Rattle.sts_words.specs.Reading.{budget_part, part_of, parts_from, in_front, nothing, added, added_all, said_with, next}
 
 abbrev said : List (List ℕ) → Option ℕ → Bool → Bool → Said
 said names budget stats image = record { names = names; budget = budget; stats = stats; image = image }

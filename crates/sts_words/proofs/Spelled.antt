@@ -1,6 +1,6 @@
 -- Words are read as the parts that they spell.
 use Rattle.std.proofs.Common.{◌≡◌, ℕ, List, [], ◌∷◌, ◌++◌, take, drop, refl, sym, ap, ◌∙◌, subst, inl, inr, eqb}
-use Rattle.std.specs.Prelude.{Bool, true, false, not, ◌&&◌, ◌↔◌, if◌then◌else◌, codes, option_and_then, Option, Some, None}
+use Rattle.std.specs.Prelude.{Bool, true, false, not, ◌&&◌, if◌then◌else◌, codes, option_and_then, Option, Some, None}
 use Rattle.std.specs.Option.{option_map}
 use Rattle.std.specs.Str.{bytes_eq}
 use Rattle.std.proofs.lemmas.Bool.{false≢true}
@@ -8,8 +8,8 @@ use Rattle.std.proofs.lemmas.Slice.Eq.{bytes_eq-Decides}
 use Rattle.std.proofs.lemmas.List.{take-append-drop}
 use Rattle.sts_words.specs.Numbers.{number_within}
 use Rattle.sts_words.specs.Orders.{Asked, most_budget}
-use Rattle.sts_words.specs.Words.{Part, a_name, a_budget, the_stats, the_image, is_name, behind_budget, budget_part, name_part, joined_part, part_of, in_front, parts_from, said_by, asked_by, order_of}
-use Rattle.sts_words.specs.Spellings.{SpellPart, Spell}
+use Rattle.sts_words.specs.Words.{Part, a_name, a_budget, the_stats, the_image, is_name, SpellPart, Spell, said_by, asked_by, AskFor, IsAskedBy}
+use Rattle.sts_words.specs.Reading.{behind_budget, budget_part, joined_part, part_of, in_front, parts_from, order_of}
 
 -- a word that is equal to a text is that text
 pub same-text : (word text : List ℕ) → bytes_eq word text ≡ true → word ≡ text
@@ -155,19 +155,39 @@ spelled false [] parts e = (let p : parts ≡ [] = cc in subst (λ x. Spell x []
 spelled false (word ∷ rest) parts e =
     spelled-by word rest parts (bytes_eq word (codes "--budget")) refl (λ ps h. spelled true rest ps h) (λ ps h. spelled false rest ps h) e
 
-pub parts_spelled : (words : List (List ℕ)) (parts : List Part) → (parts_from false words ≡ Some parts) ↔ Spell parts words
-parts_spelled words parts = (spelled false words parts, all-read parts words)
-
--- what a command asks for with some parts
-abbrev asked_with : List ℕ → List Part → Option Asked
-asked_with command parts = option_and_then (asked_by command) (said_by parts)
-
 found : (command : List ℕ) (words : List (List ℕ)) (asked : Asked) (o : Option (List Part)) → parts_from false words ≡ o
-    → option_and_then (asked_by command) (option_and_then said_by o) ≡ Some asked → (parts : List Part) × Spell parts words × (asked_with command parts ≡ Some asked)
+    → option_and_then (asked_by command) (option_and_then said_by o) ≡ Some asked → AskFor (command ∷ words) asked
 found command words asked None is e = cc
-found command words asked (Some parts) is e = (parts, spelled false words parts is, e)
+found command words asked (Some parts) is e =
+    record { command = command; behind = words; parts = parts; are = refl; spelled = spelled false words parts is; taken = e }
 
-pub order_spelled : (command : List ℕ) (words : List (List ℕ)) (asked : Asked)
-    → (order_of (command ∷ words) ≡ Some asked) ↔ ((parts : List Part) × Spell parts words × (asked_with command parts ≡ Some asked))
-order_spelled command words asked =
-    (λ e. found command words asked (parts_from false words) refl e, λ h. ap (λ o. option_and_then (asked_by command) (option_and_then said_by o)) (all-read h.0 words h.1) ∙ h.2)
+ask-for : (words : List (List ℕ)) (asked : Asked) → order_of words ≡ Some asked → AskFor words asked
+ask-for [] asked e = cc
+ask-for (command ∷ words) asked e = found command words asked (parts_from false words) refl e
+
+order-some : (words : List (List ℕ)) (asked : Asked) → AskFor words asked → order_of words ≡ Some asked
+order-some words asked a =
+    ap order_of a.are ∙ ap (λ o. option_and_then (asked_by a.command) (option_and_then said_by o)) (all-read a.parts a.behind a.spelled) ∙ a.taken
+
+some-order : (asked : Asked) (o : Option Asked) → None ≡ o → o ≡ Some asked → ⊥
+some-order asked o e f = cc
+
+-- what the reader gives is what words ask for,
+pub is-asked : (words : List (List ℕ)) (asked : Option Asked) → asked ≡ order_of words → IsAskedBy words asked
+is-asked words None e = λ asked a. some-order asked (order_of words) e (order-some words asked a)
+is-asked words (Some asked) e = ask-for words asked (sym e)
+
+-- and nothing else is
+pub asked-is : (words : List (List ℕ)) (asked : Option Asked) → IsAskedBy words asked → asked ≡ order_of words
+asked-is words (Some asked) a = sym (order-some words asked a)
+asked-is words None h = by_order (order_of words) refl
+  where
+    by_order : (o : Option Asked) → order_of words ≡ o → None ≡ order_of words
+    by_order None e = sym e
+    by_order (Some asked) e = absurd (h asked (ask-for words asked e))
+
+pub one-asked : (words : List (List ℕ)) (first second : Option Asked) → IsAskedBy words first → IsAskedBy words second → first ≡ second
+one-asked words first second a b = asked-is words first a ∙ sym (asked-is words second b)
+
+pub some-asked : (words : List (List ℕ)) → (asked : Option Asked) × IsAskedBy words asked
+some-asked words = (order_of words, is-asked words (order_of words) refl)

@@ -1,8 +1,51 @@
 -- The reader of the words behind a command, as a function on lists. No public clause cites it.
-use Rattle.std.specs.Prelude.{ℕ, nat_le, Bool, true, false, List, [], ◌∷◌, ◌++◌, length, if◌then◌else◌, is_some, codes, option_and_then, Option, Some, None}
+use Rattle.std.specs.Prelude.{ℕ, nat_le, Bool, true, false, List, [], ◌∷◌, ◌++◌, length, take, drop, if◌then◌else◌, is_some, codes, option_and_then, Option, Some, None}
 use Rattle.std.specs.Option.{option_map}
 use Rattle.std.specs.Str.{bytes_eq}
-use Rattle.sts_words.specs.Words.{Part, a_name, a_budget, the_stats, the_image, Said, parts_from, budget_part, part_of}
+use Rattle.sts_words.specs.Numbers.{number_within}
+use Rattle.sts_words.specs.Orders.{Asked, most_budget}
+use Rattle.sts_words.specs.Words.{Part, a_name, a_budget, the_stats, the_image, Said, is_name, said_by, asked_by}
+
+-- what stands behind `--budget=` in a word that begins so
+abbrev pub behind_budget : List ℕ → Option (List ℕ)
+behind_budget word = if bytes_eq (take 9 word) (codes "--budget=") then Some (drop 9 word) else None
+
+-- the budget that a word is
+abbrev pub budget_part : List ℕ → Option Part
+budget_part word = option_map a_budget (number_within most_budget word)
+
+abbrev pub name_part : List ℕ → Option Part
+name_part word = if is_name word then Some (a_name word) else None
+
+-- the part that a word is, where this stands behind `--budget=`, or is else
+abbrev pub joined_part : Option (List ℕ) → List ℕ → Option Part
+joined_part (Some number) word = budget_part number
+joined_part None word = name_part word
+
+-- the part that one word is
+abbrev pub part_of : List ℕ → Option Part
+part_of word =
+    if bytes_eq word (codes "--stats") then Some the_stats
+    else if bytes_eq word (codes "--image") then Some the_image
+    else joined_part (behind_budget word) word
+
+-- a part in front of others, where all are parts
+abbrev pub in_front : Option Part → Option (List Part) → Option (List Part)
+in_front part parts = option_and_then (λ first. option_map (λ rest. first ∷ rest) parts) part
+
+-- The parts that these words are, in their order, if each is one. `awaits` says that the word before them is `--budget`, so that the first
+-- of them is to be its number.
+abbrev pub parts_from : Bool → List (List ℕ) → Option (List Part)
+parts_from awaits [] = if awaits then None else Some []
+parts_from awaits (word ∷ rest) =
+    if awaits then in_front (budget_part word) (parts_from false rest)
+    else if bytes_eq word (codes "--budget") then parts_from true rest
+    else in_front (part_of word) (parts_from false rest)
+
+-- what words ask for, if they are taken
+abbrev pub order_of : List (List ℕ) → Option Asked
+order_of [] = None
+order_of (command ∷ words) = option_and_then (asked_by command) (option_and_then said_by (parts_from false words))
 
 -- nothing is said yet
 abbrev pub nothing : Said

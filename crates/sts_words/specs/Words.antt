@@ -1,5 +1,5 @@
 -- Which lists of words are taken, and what they ask for.
-use Rattle.std.specs.Prelude.{ℕ, ◌+◌, ◌==◌, ◌&&◌, ◌||◌, nat_le, nat_lt, is_some, Bool, true, false, not, List, [], ◌∷◌, length, take, drop, slice_get, unwrap_or, if◌then◌else◌, codes, option_and_then, filter, filter_map, Option, Some, None}
+use Rattle.std.specs.Prelude.{◌≡◌, ◌⊎◌, ℕ, ◌==◌, ◌&&◌, ◌||◌, nat_le, nat_lt, is_some, Bool, true, false, not, List, [], ◌∷◌, ◌++◌, length, slice_get, unwrap_or, if◌then◌else◌, codes, option_and_then, filter, filter_map, Option, Some, None, IsTrue}
 use Rattle.std.specs.Option.{option_map}
 use Rattle.std.specs.Str.{bytes_eq}
 use Rattle.sts_words.specs.Numbers.{number_within}
@@ -17,41 +17,20 @@ abbrev pub is_name : List ℕ → Bool
 is_name [] = false
 is_name (first ∷ rest) = not (first == 45)
 
--- what stands behind `--budget=` in a word that begins so
-abbrev pub behind_budget : List ℕ → Option (List ℕ)
-behind_budget word = if bytes_eq (take 9 word) (codes "--budget=") then Some (drop 9 word) else None
+-- The words that spell a part: a name itself; `--budget M` or `--budget=M`; `--stats`; `--image`.
+abbrev pub SpellPart : Part → List (List ℕ) → Type 0
+SpellPart (a_name word) words = IsTrue (is_name word) × (words ≡ word ∷ [])
+SpellPart (a_budget number) words =
+    (digits : List ℕ) × (number_within most_budget digits ≡ Some number)
+    × ((words ≡ codes "--budget" ∷ digits ∷ []) ⊎ (words ≡ (codes "--budget=" ++ digits) ∷ []))
+SpellPart the_stats words = words ≡ codes "--stats" ∷ []
+SpellPart the_image words = words ≡ codes "--image" ∷ []
 
--- the budget that a word is
-abbrev pub budget_part : List ℕ → Option Part
-budget_part word = option_map a_budget (number_within most_budget word)
-
-abbrev pub name_part : List ℕ → Option Part
-name_part word = if is_name word then Some (a_name word) else None
-
--- the part that a word is, where this stands behind `--budget=`, or is else
-abbrev pub joined_part : Option (List ℕ) → List ℕ → Option Part
-joined_part (Some number) word = budget_part number
-joined_part None word = name_part word
-
--- the part that one word is
-abbrev pub part_of : List ℕ → Option Part
-part_of word =
-    if bytes_eq word (codes "--stats") then Some the_stats
-    else if bytes_eq word (codes "--image") then Some the_image
-    else joined_part (behind_budget word) word
-
--- a part in front of others, where all are parts
-abbrev pub in_front : Option Part → Option (List Part) → Option (List Part)
-in_front part parts = option_and_then (λ first. option_map (λ rest. first ∷ rest) parts) part
-
--- The parts that these words are, in their order, if each is one. `awaits` says that the word before them is `--budget`, so that the first
--- of them is to be its number.
-abbrev pub parts_from : Bool → List (List ℕ) → Option (List Part)
-parts_from awaits [] = if awaits then None else Some []
-parts_from awaits (word ∷ rest) =
-    if awaits then in_front (budget_part word) (parts_from false rest)
-    else if bytes_eq word (codes "--budget") then parts_from true rest
-    else in_front (part_of word) (parts_from false rest)
+-- words are the spellings of these parts, one behind the other
+abbrev pub Spell : List Part → List (List ℕ) → Type 0
+Spell [] words = words ≡ []
+Spell (part ∷ rest) words =
+    (front more : List (List ℕ)) × SpellPart part front × Spell rest more × (words ≡ front ++ more)
 
 -- the name, or the number of a budget, that a part is
 abbrev pub name_in : Part → Option (List ℕ)
@@ -171,7 +150,16 @@ asked_by command said =
     else if bytes_eq command (codes "big") then big_by said
     else None
 
--- What these words ask for, if they are taken: a command, and behind it parts, in any order but that of names.
-abbrev pub order_of : List (List ℕ) → Option Asked
-order_of [] = None
-order_of (command ∷ words) = option_and_then (asked_by command) (option_and_then said_by (parts_from false words))
+-- Words ask for this: they are a command, and behind it the spellings of some parts, in any order but that of names.
+pub record AskFor (words : List (List ℕ)) (asked : Asked) : Type 0 where
+  pub command : List ℕ
+  pub behind : List (List ℕ)
+  pub parts : List Part
+  pub are : words ≡ command ∷ behind
+  pub spelled : Spell parts behind
+  pub taken : option_and_then (asked_by command) (said_by parts) ≡ Some asked
+
+-- what words ask for, if they are taken
+abbrev pub IsAskedBy : List (List ℕ) → Option Asked → Type 0
+IsAskedBy words None = (asked : Asked) → ¬ AskFor words asked
+IsAskedBy words (Some asked) = AskFor words asked

@@ -12,4 +12,4 @@ mod theorems;
 pub use order::Order;
 pub use reading::{asked_by, read_words};
 pub use said::{Given, Names};
-pub use theorems::words_spell_their_parts;
+pub use theorems::words_ask_for_one_thing;

@@ -4,7 +4,7 @@ ghost use Rattle.std.specs.Option.{option_map};
 ghost use Rattle.sts_words.specs.Orders.{order_view, IsInRange, IsBudget, HasBudget, default_budget};
 ghost use Rattle.sts_words.specs.Words as spec;
 ghost use Rattle.sts_words.specs.Views.{said_view, names_view, named_view, next_view, spoken};
-ghost use Rattle.sts_words.specs.Reading.{next};
+ghost use Rattle.sts_words.specs.Reading.{next, order_of, parts_from};
 
 use crate::numbers::read_number;
 use crate::order::Order;
@@ -33,7 +33,7 @@ fn with_word<'a>(given: Given<'a>, awaits: bool, word: &'a str) -> Option<(Given
 /// What the words behind a command say, if each is a part and each option stands at most once.
 fn given_by<'a>(words: &'a [String]) -> Option<Given<'a>>
     ensures said { option_map said_view result
-        ≡ option_and_then spec.said_by (spec.parts_from false (map string_bytes words.now)) }
+        ≡ option_and_then spec.said_by (parts_from false (map string_bytes words.now)) }
     ensures range { IfSome result (λ given. HasBudget given.budget) }
 {
     let mut so_far = (Given::nothing(), false);
@@ -199,14 +199,22 @@ pub fn asked_by<'a>(command: &str, given: Given<'a>) -> Option<Order<'a>>
     }
 }
 
-/// What the words ask for, those behind the program's name, if they are taken: a command, and behind it, in any order, its names in
-/// their order and its options, each at most once. `--budget` is one word with its number behind `=`, or two.
-pub fn read_words<'a>(words: &'a [String]) -> Option<Order<'a>>
-    ensures order { option_map order_view result ≡ spec.order_of (map string_bytes words.now) }
+/// The same as `read_words`, by the reader as a function on lists.
+fn read_in_turn<'a>(words: &'a [String]) -> Option<Order<'a>>
+    ensures order { option_map order_view result ≡ order_of (map string_bytes words.now) }
     ensures range { IfSome result IsInRange }
 {
     match words {
         [command, rest @ ..] => asked_by(command.as_str(), given_by(rest)?),
         [] => None,
     }
+}
+
+/// What the words ask for, those behind the program's name, if they are taken: a command, and behind it, in any order, its names in
+/// their order and its options, each at most once. `--budget` is one word with its number behind `=`, or two.
+pub fn read_words<'a>(words: &'a [String]) -> Option<Order<'a>>
+    ensures order { spec.IsAskedBy (map string_bytes words.now) (option_map order_view result) }
+    ensures range { IfSome result IsInRange }
+{
+    read_in_turn(words)
 }

@@ -3,7 +3,7 @@ ghost use Rattle.std.specs.Prelude.{◌≡◌, None, IfSome, option_and_then};
 ghost use Rattle.std.specs.Option.{option_map};
 ghost use Rattle.sts_words.specs.Orders.{HasBudget};
 ghost use Rattle.sts_words.specs.Words as spec;
-ghost use Rattle.sts_words.specs.Reading.{added, nothing};
+ghost use Rattle.sts_words.specs.Reading.{added, behind_budget, budget_part, name_part, nothing, part_of};
 ghost use Rattle.sts_words.specs.Views.{said_view, spoken};
 
 use crate::numbers::read_number;
@@ -50,7 +50,7 @@ fn can_be_name(word: &str) -> bool
 
 /// What stands behind `--budget=` in a word that begins so.
 fn behind_budget(word: &str) -> Option<&str>
-    ensures { option_map spoken result ≡ spec.behind_budget word.now }
+    ensures { option_map spoken result ≡ behind_budget word.now }
 {
     word.strip_prefix("--budget=")
 }
@@ -72,7 +72,7 @@ impl<'a> Given<'a> {
     /// The same with a budget, where the word is one and none stands there yet.
     pub fn with_budget(self, word: &str) -> Option<Given<'a>>
         ensures said { option_map said_view result
-            ≡ option_and_then (added (said_view self.entry)) (spec.budget_part word.now) }
+            ≡ option_and_then (added (said_view self.entry)) (budget_part word.now) }
         ensures range { HasBudget self.entry.budget → IfSome result (λ given. HasBudget given.budget) }
     {
         let number = read_number(word, MOST_BUDGET)?;
@@ -90,7 +90,7 @@ impl<'a> Given<'a> {
     /// The same with a name, where the word is one and fewer than three stand there.
     fn with_name(self, word: &'a str) -> Option<Given<'a>>
         ensures said { option_map said_view result
-            ≡ option_and_then (added (said_view self.entry)) (spec.name_part word.entry.now) }
+            ≡ option_and_then (added (said_view self.entry)) (name_part word.entry.now) }
         ensures range { HasBudget self.entry.budget → IfSome result (λ given. HasBudget given.budget) }
     {
         if !can_be_name(word) {
@@ -145,7 +145,7 @@ impl<'a> Given<'a> {
     /// The same with what a word says by itself, where it says something that may stand there.
     pub fn with(self, word: &'a str) -> Option<Given<'a>>
         ensures said { option_map said_view result
-            ≡ option_and_then (added (said_view self.entry)) (spec.part_of word.entry.now) }
+            ≡ option_and_then (added (said_view self.entry)) (part_of word.entry.now) }
         ensures range { HasBudget self.entry.budget → IfSome result (λ given. HasBudget given.budget) }
     {
         if word == "--stats" {
