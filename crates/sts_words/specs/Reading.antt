@@ -1,4 +1,4 @@
--- The reader of the words behind a command, as a function on lists. No public clause cites it.
+-- The reader of the words behind a command, as a function on lists: what `Given` has after one word more. What words ask for is said without it.
 use Rattle.std.specs.Prelude.{ℕ, nat_le, Bool, true, false, List, [], ◌∷◌, ◌++◌, length, take, drop, if◌then◌else◌, is_some, codes, option_and_then, Option, Some, None}
 use Rattle.std.specs.Option.{option_map}
 use Rattle.std.specs.Str.{bytes_eq}
