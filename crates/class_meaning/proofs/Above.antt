@@ -114,7 +114,7 @@ module _ {A S C D : Type 0} (bound : ℕ) (members : List (Member A S)) (L : Cla
               (paired_all (ShowsSame bound L.until) _ _ (passes_same bound L.until (suc t)) parts.first c.below parts.low c.cut.passed);
           goes = ap over parts.mid.board ∙ c.cut.goes;
         };
-        at_most = fewer bound L.until budget parts.one c.here parts.mid (let e = c.steps in omega (arith, e));
+        within = subst (λ (ps : List (Played A S)). AllByRecursion (λ (p : Played A S). p.steps ≤ budget) ps) parts.is (paired_all (ShowsSame bound L.until) _ _ (fewer bound L.until budget) up.0 all up.1 c.within);
         at_least = enough bound L.until budget parts.one c.here parts.mid c.steps c.cut.goes;
         is = c.is ∙ same_cut _ _ _ _ _ _ _ _ (sym number) (sym parts.mid.board) (sym low) (sym same);
       })

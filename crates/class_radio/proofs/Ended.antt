@@ -262,6 +262,7 @@ module _ (plan : ClassPlan) (sound : IsSoundPlan plan) (began : Option (List ℕ
           cut = cut;
           at = number_is;
           steps = made;
+          within = low (omega (arith, made));
           written = subst (Took began taken) (regroup (lines_before t (shown_boards gone first ++ V.board ∷ shown_boards still rest)) (moment_lines t 0 (shown_boards gone first)) (seen_at t (length gone) V.board.seen) (numbered (length gone) (closing_line t None)) ∙ sym text) (took-then _ _ (took-then _ _ took seen) closed);
         }
 
@@ -276,6 +277,7 @@ module _ (plan : ClassPlan) (sound : IsSoundPlan plan) (began : Option (List ℕ
             above = above;
             cut = cut;
             steps = made;
+            within = low (omega (arith, made));
             is = ap (λ (n : ℕ). cut_text n (world_of plan.until one).board (boards_of plan.until below) (boards_of plan.until (below ++ one ∷ above))) (sym number_is);
           });
           written = subst (TookPart began taken) (regroup (lines_before t (shown_boards gone first ++ V.board ∷ shown_boards still rest)) (moment_lines t 0 (shown_boards gone first)) (seen_at t (length gone) V.board.seen) (numbered (length gone) (closing_line t None)) ∙ sym text) (part-then _ _ (took-then _ _ took seen) closed);

@@ -36,8 +36,7 @@ last_line_of by_script end latest =
 -- the line of a player that stands so
 abbrev pub end_line_of : Standing → (number : ℕ) → ByteList → ByteList
 end_line_of Plays number text = numbered number text
-end_line_of Panicked number text = []
-end_line_of Faulted number text = []
+end_line_of _ number text = []
 
 -- the lines of players, from this number on
 abbrev pub ends_of : ByteList → ℕ → List Player → ByteList

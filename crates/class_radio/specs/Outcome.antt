@@ -38,7 +38,7 @@ class_of_parts parts losses until frees =
 abbrev pub boards_of : ℕ → List (Played Fiber Shared) → List Board
 boards_of until ps = map (λ (p : Played Fiber Shared). (world_of until p).board) ps
 
--- how many boards ended by a panic, and by a fault
+-- whether a run ended by a panic, or by a fault
 abbrev pub is_panic : Option End → Bool
 is_panic (Some (Panicked code)) = true
 is_panic _ = false
@@ -47,6 +47,7 @@ abbrev pub is_fault : Option End → Bool
 is_fault (Some (Faulted kind address)) = true
 is_fault _ = false
 
+-- of how many boards the end passes a test
 abbrev pub how_many_end : (Option End → Bool) → List Board → ℕ
 how_many_end test [] = 0
 how_many_end test (w ∷ ws) = (if test w.end then 1 else 0) + how_many_end test ws
@@ -62,7 +63,7 @@ module _ (parts : List Setup) (losses : List Loss) (until budget : ℕ) where
     pub faulted : faults ≡ how_many_end is_fault (boards_of until runs)
     pub written : Took taken taken' (whole_text until (boards_of until runs))
 
-  -- The budget of the board with this number ended: it has made as many steps, and the lines up to there were written.
+  -- The budget of the board with this number ended: it has made as many steps, no board has made more, and the lines up to there were written.
   pub record HasSpent (number : ℕ) (taken taken' : Option (List ℕ)) : Type 0 where
     pub frees : List (List ℕ)
     pub below : List (Played Fiber Shared)
@@ -71,6 +72,7 @@ module _ (parts : List Setup) (losses : List Loss) (until budget : ℕ) where
     pub cut : IsRunUpTo (class_of_parts parts losses until frees) below here above
     pub at : length below ≡ number
     pub steps : here.steps ≡ budget
+    pub within : AllByRecursion (λ (p : Played Fiber Shared). p.steps ≤ budget) (below ++ here ∷ above)
     pub written : Took taken taken'
         (cut_text number (world_of until here).board (boards_of until below) (boards_of until (below ++ here ∷ above)))
 

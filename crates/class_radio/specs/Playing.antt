@@ -33,7 +33,12 @@ pub record Setup : Type 0 where
 
 -- its member of a class, with these free words, and a run of it
 abbrev pub member_of : Setup → List ℕ → Member Fiber Shared
-member_of setup free = record { kind = fibers setup.image; main = main_of setup.image; shared = shared_at_reset free; script = world_entries setup.script.entries }
+member_of setup free = record {
+  kind = fibers setup.image;
+  main = main_of setup.image;
+  shared = shared_at_reset free;
+  script = world_entries setup.script.entries;
+}
 
 abbrev pub run_given : Setup → List Entry → ℕ → List ℕ → Played Fiber Shared
 run_given setup script steps free = record { member = member_of setup free; script = script; steps = steps }
@@ -102,8 +107,7 @@ heard_event number = record { source = pos radio_source; value = number }
 abbrev pub hearing_as : Standing → ℕ → ℤ → Player → Player
 hearing_as Plays t number p =
     record p { board = record p.board { kept = queued (heard_event number) p.board.kept }; due = Some t }
-hearing_as Panicked t number p = p
-hearing_as Faulted t number p = p
+hearing_as _ t number p = p
 
 abbrev pub hearing : ℕ → ℤ → Player → Player
 hearing t number p = hearing_as p.standing t number p

@@ -12,7 +12,7 @@ use Rattle.class_world.specs.Hearing.{before, sent_at}
 use Rattle.class_world.specs.Classes.{world_before}
 use Rattle.class_world.specs.Lines.{seen_at, lines_at}
 use Rattle.board_run.specs.Proceeding.{IsBusy}
-use Rattle.board_run.specs.declared.end.End.TheVariants.{Quiet, Script, Panic, Budget as BudgetEnd, Fault, SinkFault as SinkFaultEnd}
+use Rattle.board_run.specs.declared.end.End.TheVariants.{Panic, Fault, SinkFault as SinkFaultEnd}
 use Rattle.board_run.specs.declared.moments.Gone.{Gone}
 use Rattle.board_run.specs.declared.moments.Gone.TheVariants.{Idle, Ended}
 use Rattle.board_run.specs.Going.{next_moment}
@@ -91,16 +91,11 @@ abbrev pub noting : Gone → Player → Player
 noting (Idle used) p = record p { left = p.left - used; due = next_moment p.board.engine }
 noting (Ended (Panic code)) p = record p { due = None; standing = Panicked }
 noting (Ended (Fault fault address)) p = record p { due = None; standing = Faulted }
-noting (Ended BudgetEnd) p = p
-noting (Ended SinkFaultEnd) p = p
-noting (Ended Quiet) p = p
-noting (Ended Script) p = p
+noting _ p = p
 
 abbrev pub step_told : Gone → Step
 step_told (Idle used) = Through
 step_told (Ended (Panic code)) = Through
 step_told (Ended (Fault fault address)) = Through
-step_told (Ended BudgetEnd) = Budget
 step_told (Ended SinkFaultEnd) = SinkFault
-step_told (Ended Quiet) = Budget
-step_told (Ended Script) = Budget
+step_told _ = Budget

@@ -184,10 +184,10 @@ module _ {A S : Type 0} (C : Class A S) (order : AreInOrder C.members) where
   begun_by budget a b h k = (k.0, k.1, begins_trans a b k.0 h k.2)
 
   -- a board is cut in the moment to which all have come
-  cut_here : (budget u : ℕ) (first : List (Played A S)) (here : Played A S) (rest : List (Played A S)) → IsRunTo C u (first ++ here ∷ rest) → Pass (suc u) first → Goes (suc u) here → here.steps ≡ budget
+  cut_here : (budget u : ℕ) (first : List (Played A S)) (here : Played A S) (rest : List (Played A S)) → IsRunTo C u (first ++ here ∷ rest) → Pass (suc u) first → Goes (suc u) here → here.steps ≡ budget → AllByRecursion (λ (p : Played A S). p.steps ≤ budget) (first ++ here ∷ rest)
       → (x : ByteList) → IsPrefix x (moment_lines u 0 (boards_now C.until first) ++ seen_at u (length first) (world_of C.until here).board.seen)
       → Begun budget (lines_before u (boards_now C.until (first ++ here ∷ rest)) ++ x)
-  cut_here budget u first here rest r passed goes steps x h =
+  cut_here budget u first here rest r passed goes steps within x h =
       (let now : (world_of C.until here).board.clock ≡ u = stands u here (pass_here u first here rest r.pass) goes in
       let all = boards_now C.until (first ++ here ∷ rest) in
       let w = (world_of C.until here).board in
@@ -200,6 +200,7 @@ module _ {A S : Type 0} (C : Class A S) (order : AreInOrder C.members) where
           above = rest;
           cut = record { runs = subst (λ (v : ℕ). IsRunTo C v (first ++ here ∷ rest)) (sym now) r; passed = subst (λ (v : ℕ). Pass (suc v) first) (sym now) passed; goes = goes.0 };
           steps = steps;
+          within = within;
           is = refl;
         }),
         begins_same (lines_before u all ++ x) (lines_before u all ++ x) text (lines_before u all ++ ((moment_lines u 0 (boards_now C.until first) ++ seen_at u (length first) w.seen) ++ last)) refl
@@ -232,7 +233,7 @@ module _ {A S : Type 0} (C : Class A S) (order : AreInOrder C.members) where
           (further qs (goes_on u ps r h) (next_made budget u seen 0 ps made)))
       by_all further (inr f) =
           (let made' : AllByRecursion (λ (p : Played A S). p.steps ≡ budget) (f.first ++ f.here ∷ f.rest) = subst (λ (qs : List (Played A S)). AllByRecursion (λ (p : Played A S). p.steps ≡ budget) qs) f.split made in
-          let b = cut_here budget u f.first f.here f.rest (subst (IsRunTo C u) f.split r) f.passed (f.goes, f.early) (made_here budget f.first f.here f.rest made')
+          let b = cut_here budget u f.first f.here f.rest (subst (IsRunTo C u) f.split r) f.passed (f.goes, f.early) (made_here budget f.first f.here f.rest made') (all_within budget (f.first ++ f.here ∷ f.rest) made')
           [] (moment_lines u 0 (boards_now C.until f.first) ++ seen_at u (length f.first) (world_of C.until f.here).board.seen, refl) in
           begun_by budget (lines_before u (boards_now C.until ps)) (lines_before u (boards_now C.until (f.first ++ f.here ∷ f.rest)) ++ [])
           ([], ap (λ (qs : List (Played A S)). lines_before u (boards_now C.until qs) ++ []) f.split) b)
@@ -363,6 +364,9 @@ module _ {A S : Type 0} (C : Class A S) (order : AreInOrder C.members) where
     from_base : Begun budget (lines_before t (boards_now C.until (made budget below ++ record here { steps = budget } ∷ made budget above)) ++ done) → Begun budget (lines_before t olds ++ done)
     from_base h = subst (λ (l : ByteList). Begun budget (l ++ done)) base h
 
+    made_both : AllByRecursion (λ (p : Played A S). p.steps ≡ budget) (made budget below ++ record here { steps = budget } ∷ made budget above)
+    made_both = all_both (λ (p : Played A S). p.steps ≡ budget) (made budget below) (record here { steps = budget } ∷ made budget above) (made_all budget below) (refl, made_all budget above)
+
     -- the board goes on at the moment when its budget is used
     cut_now : Goes (suc t) (record here { steps = budget }) → Begun budget (lines_before t olds ++ done)
     cut_now g =
@@ -371,7 +375,7 @@ module _ {A S : Type 0} (C : Class A S) (order : AreInOrder C.members) where
         let mine : IsPrefix (lines_at t n (world_before C.until (suc t) here).board) (seen_at t n (world_of C.until (record here { steps = budget })).board.seen) =
         (subst (λ (k : ℕ). over (world_of C.until (record here { steps = k })).board ≡ false → IsPrefix (lines_at t n (world_before C.until (suc t) here).board) (seen_at t n (world_of C.until (record here { steps = k })).board.seen)) steps_are
         (cut_lines C.until (budget - here.steps) here rising_here t n)) g.0 in
-        from_base (cut_here budget t (made budget below) (record here { steps = budget }) (made budget above) is_run (pass_of (suc t) (made budget below) bs first_reached) g refl done
+        from_base (cut_here budget t (made budget below) (record here { steps = budget }) (made budget above) is_run (pass_of (suc t) (made budget below) bs first_reached) g refl (all_within budget _ made_both) done
         (begins_same done done (moment_lines t 0 (boards_now C.until (made budget below)) ++ seen_at t (length (made budget below)) w.seen) (moment_lines t 0 bs ++ seen_at t n w.seen) refl
         (ap (λ (l : ByteList). l ++ seen_at t (length (made budget below)) w.seen) below_lines ∙ ap (λ (i : ℕ). moment_lines t 0 bs ++ seen_at t i w.seen) (made_length budget below))
         (begins_behind (moment_lines t 0 bs) (lines_at t n (world_before C.until (suc t) here).board) (seen_at t n w.seen) mine))))
@@ -387,7 +391,7 @@ module _ {A S : Type 0} (C : Class A S) (order : AreInOrder C.members) where
         let w = (world_of C.until (record here { steps = budget })).board in
         let lines : IsPrefix done (moment_lines t 0 (boards_now C.until first)) =
         subst (λ (ws : List Board). IsPrefix done (moment_lines t 0 ws)) (sym (boards_append C.until (made budget below) (record here { steps = budget } ∷ f.first))) (begins_moment (boards_now C.until f.first)) in
-        let b = cut_here budget t first f.here f.rest (subst (λ (ps : List (Played A S)). IsRunTo C t ps) split is_run) before_it (f.goes, f.early) steps done
+        let b = cut_here budget t first f.here f.rest (subst (λ (ps : List (Played A S)). IsRunTo C t ps) split is_run) before_it (f.goes, f.early) steps (all_within budget (first ++ f.here ∷ f.rest) (subst (λ (ps : List (Played A S)). AllByRecursion (λ (p : Played A S). p.steps ≡ budget) ps) split made_both)) done
         (begins_more done (moment_lines t 0 (boards_now C.until first)) (seen_at t (length first) (world_of C.until f.here).board.seen) lines) in
         from_base (subst (λ (ps : List (Played A S)). Begun budget (lines_before t (boards_now C.until ps) ++ done)) (sym split) b))
 
@@ -398,12 +402,11 @@ module _ {A S : Type 0} (C : Class A S) (order : AreInOrder C.members) where
         let pass = all_both (λ (p : Played A S). Passes (suc t) (world_of C.until p)) (made budget below) (record here { steps = budget } ∷ made budget above) (pass_of (suc t) (made budget below) bs first_reached) (h, k) in
         let seen = map (seen_by C.until) ps in
         let qs = next t seen 0 ps in
-        let made' = all_both (λ (p : Played A S). p.steps ≡ budget) (made budget below) (record here { steps = budget } ∷ made budget above) (made_all budget below) (refl, made_all budget above) in
         let rise = rises t seen 0 ps (subst AreInOrder (sym is_run.boards) order) is_run.hear in
         let old = wrote_of C.until (suc t) qs (boards_now C.until ps) (next_reached t seen 0 ps rise pass) in
         let lines : IsPrefix done (moment_lines t 0 (boards_now C.until ps)) =
         subst (λ (ws : List Board). IsPrefix done (moment_lines t 0 ws)) (sym (boards_append C.until (made budget below) (record here { steps = budget } ∷ made budget above))) (begins_moment (boards_now C.until (made budget above))) in
-        let b = begins_from budget (C.until - t) (suc t) (omega (arith, early)) qs (goes_on t ps is_run pass) (next_made budget t seen 0 ps made') in
+        let b = begins_from budget (C.until - t) (suc t) (omega (arith, early)) qs (goes_on t ps is_run pass) (next_made budget t seen 0 ps made_both) in
         from_base (begun_by budget (lines_before t (boards_now C.until ps) ++ done) (lines_before (suc t) (boards_now C.until qs))
         (begins_same (lines_before t (boards_now C.until ps) ++ done) (lines_before t (boards_now C.until ps) ++ done) (lines_before (suc t) (boards_now C.until qs)) (lines_before (suc t) (boards_now C.until ps)) refl
         (lines_same (suc t) (suc t) (omega arith) (boards_now C.until qs) (boards_now C.until ps) old)

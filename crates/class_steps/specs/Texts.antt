@@ -22,13 +22,14 @@ pub record HasWholeText {A S : Type 0} (C : Class A S) (budget : ℕ) (text : By
   pub within : AllByRecursion (λ (p : Played A S). p.steps ≤ budget) runs
   pub is : text ≡ whole_text C.until (boards_now C.until runs)
 
--- One of its boards, which goes on, has made as many, and this is its text.
+-- One of its boards, which goes on, has made as many, no board has made more, and this is its text.
 pub record HasCutText {A S : Type 0} (C : Class A S) (budget : ℕ) (text : ByteList) : Type 0 where
   pub below : List (Played A S)
   pub here : Played A S
   pub above : List (Played A S)
   pub cut : IsRunUpTo C below here above
   pub steps : here.steps ≡ budget
+  pub within : AllByRecursion (λ (p : Played A S). p.steps ≤ budget) (below ++ here ∷ above)
   pub is : text ≡ cut_text (length below) (world_of C.until here).board (boards_now C.until below)
       (boards_now C.until (below ++ here ∷ above))
 
