@@ -1,9 +1,9 @@
 -- What a run's moves are at the ports.
 use Rattle.std.specs.Prelude.{ℕ, ◌+◌, ◌*◌, List, [], ◌∷◌, ◌++◌, Option}
 use Rattle.std.specs.Int.{cast_unsigned, w32}
-use Rattle.board_world.specs.Observations.{ByteList, Observation, Show, Serial, Pin, Radio}
+use Rattle.board_world.specs.Observations.{Observation, Show, Serial, Pin, Radio}
 use Rattle.board_ports.specs.Account.{Account}
-use Rattle.board_ports.specs.History.{PortMove, Word, Unplug, PlacesAfter, entries_at, unplugged_at}
+use Rattle.board_ports.specs.History.{PortMove, Word, Unplug, words_sent, PlacesAfter, entries_at, unplugged_at}
 use Rattle.board_outside.specs.Moves.{Move, Seen, Unplugged}
 
 -- The display is at port 0, the serial port at 1, the pins at 2, and radio at 3.
@@ -19,15 +19,10 @@ pin_port = 2
 abbrev pub radio_port : ℕ
 radio_port = 3
 
--- a word for each byte
-abbrev pub bytes_sent : ℕ → ByteList → List PortMove
-bytes_sent at [] = []
-bytes_sent at (b ∷ bs) = Word serial_port at b ∷ bytes_sent at bs
-
--- The words of an observation: the frame, the bytes, twice the pin and its level, the number as a word.
+-- The words of an observation: the frame; a word for each byte; twice the pin, plus its level; the number as a word.
 abbrev pub words_of : Observation → List PortMove
 words_of (Show at frame) = Word display_port at frame ∷ []
-words_of (Serial at bytes) = bytes_sent at bytes
+words_of (Serial at bytes) = words_sent serial_port at bytes
 words_of (Pin at pin level) = Word pin_port at (2 * pin + level) ∷ []
 words_of (Radio at number) = Word radio_port at (cast_unsigned w32 number) ∷ []
 

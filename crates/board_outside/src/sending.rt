@@ -3,8 +3,8 @@ ghost use Rattle.std.specs.Prelude.{◌≡◌, ◌<◌, ◌≤◌, ◌+◌, ◌*
 ghost use Rattle.std.specs.declared.option.Option.{Option};
 ghost use Rattle.std.specs.Int.{cast_unsigned, w32};
 ghost use Rattle.bank_model.specs.Texts.{flash_bytes, text_at};
-ghost use Rattle.board_ports.specs.History.{PortMove, Word, FollowsMoves};
-ghost use Rattle.board_outside.specs.Ports.{serial_port, bytes_sent};
+ghost use Rattle.board_ports.specs.History.{PortMove, Word, words_sent, FollowsMoves};
+ghost use Rattle.board_outside.specs.Ports.{serial_port};
 
 use crate::flash::{flash_byte, flash_number, image_bytes};
 use armv6m_machine::Machine;
@@ -16,7 +16,7 @@ const SERIAL: usize = 1;
 /// Sends bytes to the serial port, a word for each.
 pub fn send_bytes<D: Device>(plugs: &mut Plugs<D>, now: u32, bytes: &[u8])
     ensures { (moves : List PortMove) (start : List (Option D)) → FollowsMoves D.account moves start plugs.old
-        → FollowsMoves D.account (moves ++ bytes_sent now bytes.now) start plugs.new }
+        → FollowsMoves D.account (moves ++ words_sent serial_port now bytes.now) start plugs.new }
 {
     plugs.send_bytes(SERIAL, now, bytes);
 }
@@ -26,7 +26,7 @@ fn send_each<D: Device>(plugs: &mut Plugs<D>, now: u32, machine: &Machine, at: u
     requires small { at < 2 ^ 34 }
     ensures { (moves : List PortMove) (start : List (Option D)) → FollowsMoves D.account moves start plugs.old
         → FollowsMoves D.account
-        (moves ++ bytes_sent now (flash_bytes machine.now.memory.flash count at)) start plugs.new }
+        (moves ++ words_sent serial_port now (flash_bytes machine.now.memory.flash count at)) start plugs.new }
 {
     for i in 0..count {
         let byte = flash_byte(machine, at + u64::from(i));
@@ -39,7 +39,7 @@ fn send_flash<D: Device>(plugs: &mut Plugs<D>, now: u32, machine: &Machine, at: 
     requires small { at < 2 ^ 33 }
     ensures { (moves : List PortMove) (start : List (Option D)) → FollowsMoves D.account moves start plugs.old
         → FollowsMoves D.account
-        (moves ++ bytes_sent now (flash_bytes machine.now.memory.flash count at)) start plugs.new }
+        (moves ++ words_sent serial_port now (flash_bytes machine.now.memory.flash count at)) start plugs.new }
 {
     let bytes = image_bytes(machine, at, count);
     plugs.send_bytes(SERIAL, now, bytes);
@@ -64,7 +64,7 @@ pub fn send_word<D: Device>(plugs: &mut Plugs<D>, port: usize, now: u32, word: u
 /// Sends the text at an address of flash to the serial port.
 pub fn send_text<D: Device>(plugs: &mut Plugs<D>, now: u32, machine: &Machine, address: u32)
     ensures { (moves : List PortMove) (start : List (Option D)) → FollowsMoves D.account moves start plugs.old
-        → FollowsMoves D.account (moves ++ bytes_sent now (text_at machine.now.memory.flash address)) start plugs.new }
+        → FollowsMoves D.account (moves ++ words_sent serial_port now (text_at machine.now.memory.flash address)) start plugs.new }
 {
     let count = flash_number(machine, u64::from(address));
     send_flash(plugs, now, machine, u64::from(address) + 4, count);

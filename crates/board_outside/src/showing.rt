@@ -5,9 +5,9 @@ ghost use Rattle.tool_io.specs.Putting.{Puts};
 ghost use Rattle.board_world.specs.Transcript.{decimal_text, lines};
 ghost use Rattle.std.specs.Int.{cast_unsigned, w32};
 ghost use Rattle.board_world.specs.Observations.{Serial, Radio};
-ghost use Rattle.board_ports.specs.History.{PortMove, Word, FollowsMoves};
+ghost use Rattle.board_ports.specs.History.{PortMove, Word, words_sent, FollowsMoves};
 ghost use Rattle.board_outside.specs.Moves.{seen_of};
-ghost use Rattle.board_outside.specs.Ports.{serial_port, radio_port, bytes_sent, port_moves};
+ghost use Rattle.board_outside.specs.Ports.{serial_port, radio_port, port_moves};
 ghost use Rattle.board_outside.specs.Outputs.{moves_of, IsSeen};
 
 use crate::lines::{
@@ -61,7 +61,7 @@ fn put_output<K: Sink>(
 /// Sends the bytes of a number's decimal text.
 fn send_number<D: Device>(now: u32, number: i32, plugs: &mut Plugs<D>)
     ensures { (moves : List PortMove) (start : List (Option D)) → FollowsMoves D.account moves start plugs.old
-        → FollowsMoves D.account (moves ++ (bytes_sent now (decimal_text number) ++ [])) start plugs.new }
+        → FollowsMoves D.account (moves ++ (words_sent serial_port now (decimal_text number) ++ [])) start plugs.new }
 {
     let mut buffer = Buffer::new();
     send_bytes(plugs, now, buffer.format(number).as_bytes());

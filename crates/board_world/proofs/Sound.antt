@@ -1,6 +1,8 @@
 -- A simulation that owes nothing at faults is a whole one on typed states, and typed runs never end by a fault.
 use Rattle.std.proofs.Common.{◌≡◌, ℕ, zero, suc, ◌+◌, ◌≤◌, ◌<◌, if◌then◌else◌, ◌==◌, List, [], ◌∷◌, refl, ap, subst, arith}
+use Rattle.std.specs.Prelude.{Option, Some, None}
 use Rattle.board_world.specs.declared.events.Listener.{Listener}
+use Rattle.board_world.specs.Observations.{End, Quietly, By_script, Panicked, Faulted}
 use Rattle.board_world.specs.Board.{Board, Entry, over, arrive}
 use Rattle.board_world.specs.Kinds.{Kind, Turn, Goes, Asks, Takes, Pauses, Waits, Spawns, Listens, RaisesNow, Ends, Panics, Faults}
 use Rattle.board_world.specs.Activities.{World}
@@ -10,7 +12,7 @@ use Rattle.board_world.specs.Invariants.{FaultsWithin, SoundEnd}
 use Rattle.board_world.specs.Simulation.{Ties, Onward, Going, Listening, Begins, Matches, Follows, Simulation, Alike, one, always}
 use Rattle.board_world.specs.Composed.{level}
 use Rattle.board_world.specs.Sound.{NoFault, PartialSimulation, Typing, After, Further, Ready, Stays, Sound}
-use Rattle.board_world.specs.Implements.{Implements, boards_from}
+use Rattle.board_world.specs.Implements.{EndsByNoFault, Implements, boards_from}
 use Rattle.board_world.specs.Trailing.{PartialTrailingSimulation}
 use Rattle.board_world.proofs.Trailing.{TrailingSimulation}
 use Rattle.board_world.proofs.Trails.{partial_trails_by_nothing}
@@ -152,6 +154,13 @@ calmed u = u
 abbrev none : ℕ → ℕ → Type 0
 none kind address = ⊥
 
+ends_by_none : (e : Option End) → SoundEnd none e → EndsByNoFault e
+ends_by_none None h = tt
+ends_by_none (Some Quietly) h = tt
+ends_by_none (Some By_script) h = tt
+ends_by_none (Some (Panicked code)) h = tt
+ends_by_none (Some (Faulted kind address)) h = h
+
 calm_runs : {A S : Type 0} (u : Turn A S) → FaultsWithin none (calmed u)
 calm_runs (Faults k a) = tt
 calm_runs (Goes a t) = tt
@@ -224,20 +233,20 @@ module _ {A S : Type 0} (K : Kind A S) where
         }
 
     -- no typed run ends by a fault, whatever arrives
-    pub never_faults : Sound K I → (f : ℕ) (s : S) → I.Code f → I.Shared 0 s → (until : ℕ) (script : List Entry) (arrivals : List Arrival) → Rises 0 arrivals → (m : ℕ) → SoundEnd none (boards_from K f s until script arrivals m).end
+    pub never_faults : Sound K I → (f : ℕ) (s : S) → I.Code f → I.Shared 0 s → (until : ℕ) (script : List Entry) (arrivals : List Arrival) → Rises 0 arrivals → (m : ℕ) → EndsByNoFault (boards_from K f s until script arrivals m).end
     never_faults sound f s code shared until script arrivals rises m =
         (let sim = calm_simulation sound in
         let kept = lifts_with (calm K) K 1 (omega arith) itself sim _ _ (starts (calm K) K itself one (always 1) sim f f s s until script (refl, code) (refl, shared)) arrivals rises m in
-        subst (λ (b : Board). SoundEnd none b.end) kept.board
-        (calm_ends (calm K) (λ a t. calm_runs (K.step a t)) kept.places kept.steps (start (calm K) f s until script) tt))
+        ends_by_none _ (subst (λ (b : Board). SoundEnd none b.end) kept.board
+        (calm_ends (calm K) (λ a t. calm_runs (K.step a t)) kept.places kept.steps (start (calm K) f s until script) tt)))
 
 -- so the lower run ends by no fault either
 pub trailing_sound_below : {A S C D : Type 0} (K : Kind A S) (L : Kind C D) (r bound : ℕ) (I : Typing A S) (T : Ties A S C D) → 0 < bound → Sound K I → PartialTrailingSimulation K L T one r (always bound)
     → (f g : ℕ) (s : S) (t : D) → I.Code f → T.Code f g → I.Shared 0 s → T.Shared 0 s t
-    → (until : ℕ) (script : List Entry) (arrivals : List Arrival) → Rises 0 arrivals → (m : ℕ) → SoundEnd none (boards_from L g t until script arrivals m).end
+    → (until : ℕ) (script : List Entry) (arrivals : List Arrival) → Rises 0 arrivals → (m : ℕ) → EndsByNoFault (boards_from L g t until script arrivals m).end
 trailing_sound_below K L r bound I T positive sound sim f g s t code tied shared alike until script arrivals rises m =
     (let kept = trailing_sound_lifts K L r bound I T positive sound sim f g s t code tied shared alike until script arrivals rises m in
-    subst (λ (b : Board). SoundEnd none b.end) kept.board (never_faults K I sound f s code shared until script kept.places (rises_from 0 kept.places kept.steps kept.rises) kept.steps))
+    subst (λ (b : Board). EndsByNoFault b.end) kept.board (never_faults K I sound f s code shared until script kept.places (rises_from 0 kept.places kept.steps kept.rises) kept.steps))
 
 -- all of it
 pub trailing_implements : {A S C D : Type 0} (K : Kind A S) (L : Kind C D) (r bound : ℕ) (I : Typing A S) (T : Ties A S C D) → 0 < bound → Sound K I → PartialTrailingSimulation K L T one r (always bound)
@@ -255,5 +264,5 @@ implements K L bound I T positive sound sim = trailing_implements K L 0 bound I 
 
 pub sound_below : {A S C D : Type 0} (K : Kind A S) (L : Kind C D) (bound : ℕ) (I : Typing A S) (T : Ties A S C D) → 0 < bound → Sound K I → PartialSimulation K L T one (always bound)
     → (f g : ℕ) (s : S) (t : D) → I.Code f → T.Code f g → I.Shared 0 s → T.Shared 0 s t
-    → (until : ℕ) (script : List Entry) (arrivals : List Arrival) → Rises 0 arrivals → (m : ℕ) → SoundEnd none (boards_from L g t until script arrivals m).end
+    → (until : ℕ) (script : List Entry) (arrivals : List Arrival) → Rises 0 arrivals → (m : ℕ) → EndsByNoFault (boards_from L g t until script arrivals m).end
 sound_below K L bound I T positive sound sim = trailing_sound_below K L 0 bound I T positive sound (partial_trails_by_nothing K L T one (always bound) sim)

@@ -1,4 +1,4 @@
--- The codes of the panics that the board makes itself.
+-- The codes of the panics that no program asks for: the world makes some (arena, seat, listener, raiser), and steps of activities the others (depth, index, null).
 use Rattle.std.specs.Prelude.{ℕ}
 
 -- more words of the arena would be used than there are

@@ -1,6 +1,6 @@
 -- The runs of a world: the plain one, the one in which somebody outside acts between two steps, and what a run below
 -- another is to look like.
-use Rattle.std.specs.Prelude.{◌≡◌, ℕ, zero, suc, ◌+◌, ◌-◌, ◌*◌, ◌≤◌, ◌<◌, true, false, not, ◌&&◌, if◌then◌else◌, nat_le, ◌==◌, List, [], ◌∷◌, filter, map}
+use Rattle.std.specs.Prelude.{◌≡◌, ℕ, zero, suc, ◌+◌, ◌-◌, ◌*◌, ◌≤◌, ◌<◌, false, not, ◌&&◌, if◌then◌else◌, nat_le, ◌==◌, List, [], ◌∷◌, filter, map}
 use Rattle.board_world.specs.Board.{Board, Act, over, arrive}
 use Rattle.board_world.specs.Kinds.{Kind}
 use Rattle.board_world.specs.Activities.{World}
@@ -60,9 +60,9 @@ pub record Placed (bound : ℕ) (a b : Arrival) : Type 0 where
   pub at_most : b.count ≤ a.count
   pub at_least : a.count < bound * (b.count + 1)
 
--- After m steps the board of the run below is that of the source's run after some, with the same arrivals at places of
--- its own. Below are at most bound steps for one of the source's, and one more: so where the source has ended, with
--- these arrivals, in s steps, the run below has in bound * s.
+-- After m steps the board of the run below is that of the source's run after some, with the arrivals that were applied by then at places of its
+-- own; for another m these may be others. While it goes on, m < bound * (steps + 1): so where the source has ended, with these arrivals, in s
+-- steps, the run below has in bound * s (`simulated_runs_end_in_time_with_arrivals`).
 pub record Keeps (bound : ℕ) (source below : List Arrival → ℕ → Board) (arrivals : List Arrival) (m : ℕ) : Type 0 where
   pub steps : ℕ
   pub places : List Arrival
@@ -71,4 +71,3 @@ pub record Keeps (bound : ℕ) (source below : List Arrival → ℕ → Board) (
   pub at_most : steps ≤ m
   pub board : source places steps ≡ below arrivals m
   pub at_least : over (below arrivals m) ≡ false → m < bound * (steps + 1)
-  pub in_time : (s : ℕ) → bound * s ≤ m → over (source places s) ≡ true → over (below arrivals m) ≡ true

@@ -8,8 +8,7 @@ ghost use Rattle.board_world.specs.World.{start};
 ghost use Rattle.board_world.specs.Runs.{Arrival, Rises, Keeps, run, run_with, board_with};
 ghost use Rattle.board_world.specs.Simulation.{Simulation, Alike, ties, one, always};
 ghost use Rattle.board_world.specs.Composed.{seen, joined_seen};
-ghost use Rattle.board_world.specs.Invariants.{SoundEnd};
-ghost use Rattle.board_world.specs.Implements.{Implements, boards_from};
+ghost use Rattle.board_world.specs.Implements.{EndsByNoFault, Implements, boards_from};
 ghost use Rattle.board_world.specs.Sound.{NoFault, PartialSimulation, Sound, typing};
 ghost use Rattle.board_world.specs.Trailing.{PartialTrailingSimulation};
 
@@ -132,7 +131,7 @@ pub fn typed_runs_make_no_fault<T: Typed>()
     ensures { (K : Kind T.Upper T.UpperShared) → Sound K (typing T.typed_shared T.typed T.typed_code)
         → (main : ℕ) (shared : T.UpperShared) → T.typed_code main → T.typed_shared 0 shared
         → (until : ℕ) (script : List Entry) (arrivals : List Arrival) → Rises 0 arrivals → (m : ℕ)
-        → SoundEnd (λ kind address. ⊥) (run_with K arrivals m (start K main shared until script)).board.end }
+        → EndsByNoFault (run_with K arrivals m (start K main shared until script)).board.end }
 {}
 
 /// There a simulation that owes nothing at faults makes the lower kind implement the upper one.

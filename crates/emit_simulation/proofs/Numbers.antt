@@ -16,7 +16,7 @@ use Rattle.flat_ir.specs.Liveness.{IsLiveAt}
 use Rattle.register_assign.specs.declared.places.Placed.{Placed}
 use Rattle.register_assign.specs.Sound.{place_of}
 use Rattle.register_assign.specs.Unread.{is_unread}
-use Rattle.sts_meaning.specs.Values.{Value, Whole, Outcome, Gives, Breaks, Stuck, then_gives, whole, to_int32, negated, applied}
+use Rattle.sts_meaning.specs.Values.{Value, Whole, Outcome, Gives, Breaks, Stuck, then_gives, whole, to_int32, applied_before, applied}
 use Rattle.sts_meaning.specs.Frames.{after}
 use Rattle.sts_meaning.specs.Heaps.{FlatHeap}
 use Rattle.flat_meaning.specs.Operators.{prefixed_by}
@@ -28,7 +28,7 @@ use Rattle.thumb_emit.specs.Bounds.{op_instructions, total_cost}
 use Rattle.thumb_emit.proofs.Laws.{brings_still, keeps_still, still_takes}
 use Rattle.thumb_emit.specs.InFlash.{Addresses}
 use Rattle.arena_values.specs.Operators.{prefix_word, operated}
-use Rattle.arena_values.proofs.Laws.{applied_leaves, negated_leaves, more_leaves, less_leaves, Leaves as LeavesWord}
+use Rattle.arena_values.proofs.Laws.{applied_leaves, applied_before_leaves, more_leaves, less_leaves, Leaves as LeavesWord}
 use Rattle.placed_frames.specs.View.{View}
 use Rattle.placed_frames.specs.Places.{get}
 use Rattle.emit_simulation.specs.Laid.{AllFlow, Comes, step_of, steps_of, store_of}
@@ -125,12 +125,12 @@ module _ (C : FlatCode) (placed : List Placed) (flash : List ℕ) (a : Addresses
 
       by : (y : Bool) → (op == 5) ≡ y → (z : Bool) → (op == 6) ≡ z → Lv flags
           (cond y (then_gives (whole v) (λ n. Gives (Whole (to_int32 (n +ℤ pos 1)))))
-          (cond z (then_gives (whole v) (λ n. Gives (Whole (to_int32 (n +ℤ negsuc 0))))) (negated op v))) (prefix_word op w)
+          (cond z (then_gives (whole v) (λ n. Gives (Whole (to_int32 (n +ℤ negsuc 0))))) (applied_before op v))) (prefix_word op w)
       by true q z r = (let o : op ≡ 5 = grind arith in subst (λ n. Lv flags (then_gives (whole v) (λ n. Gives (Whole (to_int32 (n +ℤ pos 1)))))
           (prefix_word n w)) (sym o) (more_leaves (IsText C placed flash a) (IsCode C placed flash a) (are_words C placed flash a texts image) flags v w m))
       by false q true r = (let o : op ≡ 6 = grind arith in subst (λ n. Lv flags (then_gives (whole v) (λ n. Gives (Whole (to_int32 (n +ℤ negsuc 0)))))
           (prefix_word n w)) (sym o) (less_leaves (IsText C placed flash a) (IsCode C placed flash a) (are_words C placed flash a texts image) flags v w m))
-      by false q false r = negated_leaves (IsText C placed flash a) (IsCode C placed flash a) (are_words C placed flash a texts image) flags op v w m
+      by false q false r = applied_before_leaves (IsText C placed flash a) (IsCode C placed flash a) (are_words C placed flash a texts image) flags op v w m
           (grind arith) (grind arith)
 
   module _ (p : Placed) (f : FlatFrame) (callers : List FlatFrame) (base : ℕ) (c : Fiber) (used : ℕ) (h : FlatHeap) (t : Shared)

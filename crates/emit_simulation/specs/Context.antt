@@ -30,7 +30,11 @@ bank_in flash c t = record { flash = flash; globals = t.globals; arena = t.arena
 
 -- a fiber that sees this, and what all share then
 abbrev pub fiber_seen : Fiber → View → (pc lr : ℕ) → Fiber
-fiber_seen c v pc lr = record { registers = record c.registers { r = v.low; flags = v.flags; pc = pc; lr = lr }; base = c.base; bank = v.words }
+fiber_seen c v pc lr = record {
+  registers = record c.registers { r = v.low; flags = v.flags; pc = pc; lr = lr };
+  base = c.base;
+  bank = v.words;
+}
 
 abbrev pub shared_seen : ℕ → View → List ℕ → Shared
 shared_seen used v free = record { globals = v.globals; arena = v.arena; used = used; free = free }

@@ -69,7 +69,10 @@ steps_of (x ∷ xs) = step_of x + steps_of xs
 
 -- r4 to r7 and the bank, as frames have them
 abbrev pub store_of : View → Store
-store_of v = record { kept = slice_index v.low 4 ∷ (slice_index v.low 5 ∷ (slice_index v.low 6 ∷ (slice_index v.low 7 ∷ []))); words = v.words }
+store_of v = record {
+  kept = slice_index v.low 4 ∷ (slice_index v.low 5 ∷ (slice_index v.low 6 ∷ (slice_index v.low 7 ∷ [])));
+  words = v.words;
+}
 
 -- From piece i to piece j, where what is seen goes from v to v'. Only LR may change beside.
 pub record Comes (fetch : ℕ → Fetched) (p : Places) (least most i j : ℕ) (v v' : View) (s : Registers) (b : Bank)

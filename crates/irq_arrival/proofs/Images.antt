@@ -1,17 +1,17 @@
 -- The run of an image with arrivals, and of the source under it.
 use Rattle.std.proofs.Common.{◌≡◌, ℕ, List, [], ◌++◌, Option, Some, sym, ap, ◌∙◌, subst}
 use Rattle.board_world.specs.Observations.{ByteList, End as RunEnd, Faulted}
-use Rattle.board_world.specs.Transcript.{lines, closing_line}
+use Rattle.board_world.specs.Transcript.{closing_line}
 use Rattle.board_world.specs.Board.{Board, transcript_of}
 use Rattle.board_world.specs.Runs.{Arrival, Rises}
-use Rattle.board_world.specs.Invariants.{SoundEnd}
+use Rattle.board_world.specs.Implements.{EndsByNoFault}
 use Rattle.tool_io.specs.Putting.{Took}
 use Rattle.event_script.specs.World.{world_entries}
 use Rattle.event_script.specs.declared.script.Script.{Script as EventScript}
 use Rattle.board_outside.specs.Moves.{Move, HasMet}
 use Rattle.board_outside.specs.Cuts.{Stopped}
 use Rattle.sts_syntax.specs.TypedTrees.{TypedProgram}
-use Rattle.sts_implements.specs.Images.{ImageImplements, LooksLike}
+use Rattle.sts_implements.specs.Images.{ImageImplements}
 use Rattle.board_run.specs.Outside.{Outside, OverSink}
 use Rattle.board_run.specs.Ran.{IsExecuted, HasRun, IsCut, Ran}
 use Rattle.board_run.specs.declared.end.End.{End}
@@ -49,7 +49,7 @@ module _ {B : Type 0} (account : B → Account) (image : List ℕ) (script : Eve
   -- of an image that implements a program it is the run of the program's source
   module _ (old new : Outside B) (P : TypedProgram) (texts : List ByteList) (implements : ImageImplements P texts image) (rises : Rises 0 arrivals) where
     meets : (free : List ℕ) (executed : ℕ) (moves : List Move) → IsExecuted (world_at image script arrivals free) budget executed → HasMet moves (world_at image script arrivals free executed).board
-        → (m : MeetsAt P texts image script arrivals budget) × LooksLike (source_at P texts script m.places m.steps).board (world_at image script arrivals free executed).board
+        → (m : MeetsAt P texts image script arrivals budget) × ((source_at P texts script m.places m.steps).board ≡ (world_at image script arrivals free executed).board)
     meets free executed moves e met =
         let r = reaches P texts image implements script.end (world_entries script.entries) arrivals rises free budget executed e in (
           record {
@@ -59,18 +59,12 @@ module _ {B : Type 0} (account : B → Account) (image : List ℕ) (script : Eve
             places = r.1;
             moves = moves;
             reaches = r.2;
-            met = record { seen = r.2.alike.seen ∙ met.seen; unplugged = r.2.alike.unplugged ∙ met.unplugged };
+            met = record { seen = ap (λ (b : Board). b.seen) r.2.board ∙ met.seen; unplugged = ap (λ (b : Board). b.unplugged) r.2.board ∙ met.unplugged };
             faultless =
-                subst (λ (e : Option RunEnd). SoundEnd (λ kind address. ⊥) e) (sym r.2.alike.end) (faultless P texts image implements script.end (world_entries script.entries) arrivals rises free executed);
+                subst (λ (b : Board). EndsByNoFault b.end) (sym r.2.board) (faultless P texts image implements script.end (world_entries script.entries) arrivals rises free executed);
           },
-          r.2.alike,
+          r.2.board,
         )
-
-    closing_alike : (b c : Board) → LooksLike b c → closing_line c.clock c.end ≡ closing_line b.clock b.end
-    closing_alike b c l = ap (λ t. closing_line t c.end) (sym l.clock) ∙ ap (closing_line b.clock) (sym l.end)
-
-    text_alike : (b c : Board) → LooksLike b c → transcript_of c ≡ transcript_of b
-    text_alike b c l = ap (λ os. lines os ++ closing_line c.clock c.end) (sym l.seen) ∙ ap (λ t. lines b.seen ++ t) (closing_alike b c l)
 
     source_to : (end : Option RunEnd) → RunsToAt account image script arrivals budget old new end → RunsSourceTo account P texts image script arrivals budget old new end
     unfolding meets
@@ -78,8 +72,8 @@ module _ {B : Type 0} (account : B → Account) (image : List ℕ) (script : Eve
         let m = meets r.free r.executed r.moves r.is_executed r.met in
         record {
           meets = m.0;
-          ended = m.1.end ∙ r.ended;
-          written = subst (λ t. Took old.taken new.taken t) (text_alike _ _ m.1) r.written;
+          ended = ap (λ (b : Board). b.end) m.1 ∙ r.ended;
+          written = subst (λ (b : Board). Took old.taken new.taken (transcript_of b)) (sym m.1) r.written;
           devices = r.devices;
         }
 
@@ -87,11 +81,11 @@ module _ {B : Type 0} (account : B → Account) (image : List ℕ) (script : Eve
     unfolding meets
     source_cut c =
         let m = meets c.free c.executed c.moves c.is_executed c.met in
-        record { meets = m.0; stopped = subst (λ t. Stopped account [] c.moves t old.taken new.taken old.places new.places) (closing_alike _ _ m.1) c.stopped }
+        record { meets = m.0; stopped = subst (λ (b : Board). Stopped account [] c.moves (closing_line b.clock b.end) old.taken new.taken old.places new.places) (sym m.1) c.stopped }
 
     never : (kind address : ℕ) → RunsToAt account image script arrivals budget old new (Some (Faulted kind address)) → ⊥
     never kind address r =
-        subst (λ (e : Option RunEnd). SoundEnd (λ kind address. ⊥) e) r.ended (faultless P texts image implements script.end (world_entries script.entries) arrivals rises r.free r.executed)
+        subst (λ (e : Option RunEnd). EndsByNoFault e) r.ended (faultless P texts image implements script.end (world_entries script.entries) arrivals rises r.free r.executed)
 
     pub runs_source : (end : End) → RunsImageAt account image script arrivals budget old new end → RunsSourceAt account P texts image script arrivals budget old new end
     runs_source Quiet r = source_to _ r

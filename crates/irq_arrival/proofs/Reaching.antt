@@ -3,12 +3,11 @@ use Rattle.std.proofs.Common.{◌≡◌, ℕ, ◌+◌, ◌*◌, ◌<◌, ◌≤�
 use Rattle.board_world.specs.Observations.{ByteList}
 use Rattle.board_world.specs.Board.{Board, Entry, over}
 use Rattle.board_world.specs.Runs.{Arrival, Rises, Placed, Keeps, applied}
-use Rattle.board_world.specs.Invariants.{SoundEnd}
+use Rattle.board_world.specs.Implements.{EndsByNoFault}
 use Rattle.board_world.proofs.Laws.{paired_length, applied_first}
 use Rattle.bank_model.specs.BoardMachine.{fibers, bank_start}
 use Rattle.sts_syntax.specs.TypedTrees.{TypedProgram}
 use Rattle.sts_implements.specs.Images.{instructions_of_a_step, ImageImplements}
-use Rattle.sts_implements.proofs.Laws.{looks_like}
 use Rattle.board_run.specs.Ran.{IsExecuted}
 use Rattle.irq_arrival.specs.Along.{world_with}
 use Rattle.irq_arrival.specs.ReachesWith.{source_with, ReachesWith}
@@ -24,7 +23,7 @@ module _ (P : TypedProgram) (texts : List ByteList) (image : List ℕ) (implemen
   ended_as : (m : ℕ) → there m ≡ over (world_with image until script arrivals free m).board
   ended_as m = ap (λ (b : Board). over b) (kept m).board
 
-  pub faultless : (n : ℕ) → SoundEnd (λ kind address. ⊥) (world_with image until script arrivals free n).board.end
+  pub faultless : (n : ℕ) → EndsByNoFault (world_with image until script arrivals free n).board.end
   faultless n = (implements free).no_fault until script arrivals rises n
 
   -- enough steps are made where the source hasn't ended
@@ -56,7 +55,7 @@ module _ (P : TypedProgram) (texts : List ByteList) (image : List ℕ) (implemen
       are_first =
           applied_first (fibers image) executed arrivals (bank_start image until script free) rises
           ∙ ap (λ n. take n arrivals) (paired_length (Placed instructions_of_a_step) (applied (λ n. (world_with image until script arrivals free n).board) arrivals executed) (kept executed).places (kept executed).placed);
-      alike = looks_like _ _ (kept executed).board;
+      board = (kept executed).board;
       at_most = (let m = (kept executed).at_most in let l = e.within in omega (arith, m, l));
       at_least = λ n l. enough budget executed n e l (over (world_with image until script arrivals free executed).board) refl;
       applies = applies budget executed e;

@@ -6,7 +6,7 @@ use Rattle.board_world.specs.Transcript.{closing_line}
 use Rattle.board_world.specs.Board.{Board, transcript_of}
 use Rattle.board_world.specs.Activities.{World}
 use Rattle.board_world.specs.Runs.{Arrival}
-use Rattle.board_world.specs.Invariants.{SoundEnd}
+use Rattle.board_world.specs.Implements.{EndsByNoFault}
 use Rattle.sts_syntax.specs.TypedTrees.{TypedProgram}
 use Rattle.sts_meaning.specs.Frames.{Activity}
 use Rattle.sts_meaning.specs.Heaps.{Heap}
@@ -39,7 +39,7 @@ pub record MeetsAt (P : TypedProgram) (texts : List ByteList) (image : List ℕ)
   pub reaches : ReachesWith P texts image script.end
       (world_entries script.entries) arrivals budget free executed steps places
   pub met : HasMet moves (source_at P texts script places steps).board
-  pub faultless : SoundEnd (λ kind address. ⊥) (source_at P texts script places steps).board.end
+  pub faultless : EndsByNoFault (source_at P texts script places steps).board.end
 
 -- The source has ended so, or not yet; its transcript was taken, and the devices met what it met.
 pub record RunsSourceTo {B : Type 0} (account : B → Account) (P : TypedProgram) (texts : List ByteList) (image : List ℕ)

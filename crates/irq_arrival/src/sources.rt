@@ -3,7 +3,7 @@ ghost use Rattle.std.specs.Prelude.{ℕ, List};
 ghost use Rattle.board_world.specs.Observations.{ByteList};
 ghost use Rattle.board_world.specs.Board.{Entry};
 ghost use Rattle.board_world.specs.Runs.{Arrival, Rises};
-ghost use Rattle.board_world.specs.Invariants.{SoundEnd};
+ghost use Rattle.board_world.specs.Implements.{EndsByNoFault};
 ghost use Rattle.board_run.specs.Ran.{IsExecuted};
 ghost use Rattle.sts_syntax.specs.TypedTrees.{TypedProgram};
 ghost use Rattle.sts_implements.specs.Images.{ImageImplements};
@@ -21,5 +21,5 @@ pub fn sources_meet_arrivals()
     ensures faultless { (P : TypedProgram) (texts : List ByteList) (image : List ℕ) (until : ℕ) (script : List Entry)
         (arrivals : List Arrival) (executed : ℕ) (free : List ℕ)
         → ImageImplements P texts image → Rises 0 arrivals
-        → SoundEnd (λ kind address. ⊥) (world_with image until script arrivals free executed).board.end }
+        → EndsByNoFault (world_with image until script arrivals free executed).board.end }
 {}

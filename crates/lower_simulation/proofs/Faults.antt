@@ -4,7 +4,7 @@ use Rattle.board_world.specs.Observations.{ByteList}
 use Rattle.board_world.specs.Board.{Entry}
 use Rattle.board_world.specs.Simulation.{one}
 use Rattle.board_world.specs.Runs.{Arrival, Rises, run_with}
-use Rattle.board_world.specs.Invariants.{SoundEnd}
+use Rattle.board_world.specs.Implements.{EndsByNoFault}
 use Rattle.board_world.specs.World.{start}
 use Rattle.board_world.proofs.Laws.{sound_below}
 use Rattle.flat_ir.specs.declared.ops.Op.{Op}
@@ -50,7 +50,7 @@ each_one : (P : TypedProgram) → IsLight (lowered P) one
 each_one P = record { enters = λ f base h. omega arith; ops = λ f callers base h op e. at_least op }
 
 pub no_fault : (P : TypedProgram) (texts : List ByteList) → IsWellTyped P → (until : ℕ) (script : List Entry) (arrivals : List Arrival) → Rises 0 arrivals → (m : ℕ)
-    → SoundEnd (λ kind address. ⊥) (run_with (flat (lowered P) texts) arrivals m (start (flat (lowered P) texts) P.main (forget (empty P texts)) until script)).board.end
+    → EndsByNoFault (run_with (flat (lowered P) texts) arrivals m (start (flat (lowered P) texts) P.main (forget (empty P texts)) until script)).board.end
 no_fault P texts good until script arrivals rises m =
     sound_below (source P texts) (flat (lowered P) texts) 512 (typed P) (T P texts one (each_one P)) (omega arith) (source_sound P good texts) (lowering_keeps P texts good one (each_one P))
     P.main P.main (empty P texts) (forget (empty P texts)) (inl good.main) (inl (entry_within P.functions P.main good.main.0 good.main.1, refl)) (empty_is P good texts) (refl, tt) until script arrivals rises m

@@ -16,7 +16,7 @@ use Rattle.sts_syntax.specs.TypedTrees.{ClassEntry, TypedProgram}
 use Rattle.sts_syntax.specs.Measures.{object_words, array_words}
 use Rattle.sts_syntax.specs.TypeRules.{entry, IsOneOf, IsOne}
 use Rattle.sts_syntax.specs.WellTypedPrograms.{is_maker}
-use Rattle.sts_meaning.specs.Values.{Value, Whole, Object, Text, Code, default, Outcome, Gives, Breaks, Stuck, then_gives, there, to_int32, applied, negated, bumped, Bumped, decided, with_entry}
+use Rattle.sts_meaning.specs.Values.{Value, Whole, Object, Text, Code, default, Outcome, Gives, Breaks, Stuck, then_gives, there, to_int32, applied, applied_before, bumped, Bumped, decided, with_entry}
 use Rattle.sts_meaning.specs.Heaps.{FlatHeap, Heap, Fields, with_cell, write_global, object_at, read_field, write_field, read_item, write_item, length_at, pushed, popped}
 use Rattle.sts_meaning.specs.Services.{requested}
 use Rattle.sts_meaning.specs.Continuation.{Continuation, Put, Get, Store, Drop, Unary, Apply, Choose, Both, Either, Read, Peek, Write, At, PeekAt, SetAt, Bump, BumpField, BumpAt, Measure, Push, Pop, Open, Append, New, Build, Invoke, Send, Ask, Repeat, Again, Each, Leave, Give, Round, Impossible, runs}
@@ -484,13 +484,13 @@ module _ (P : TypedProgram) (texts : List ByteList) (fine : IsFine P) (weight : 
     light_set (Local i) t = omega arith
     light_set (Global g) t = omega arith
 
-    unary_follows : (op : ℕ) (v w : Value) (m : Option ℕ) (q : Marks) (vs : List Value) (k : Continuation) (pc : ℕ) (temps : ℕ → Value) → w ≡ v → Sh n (m ∷ q) (v ∷ vs) temps → By k (pc + 1) (None ∷ q) → NoFault (after (negated op v) (λ x. Goes (now_with n (x ∷ vs) k) h))
-        → M used h (after (negated op v) (λ x. Goes (now_with n (x ∷ vs) k) h)) (after (prefixed_by op w) (λ x. Goes (here (pc + 1) (with_entry (params + locals + length q) x temps)) (forget h)))
+    unary_follows : (op : ℕ) (v w : Value) (m : Option ℕ) (q : Marks) (vs : List Value) (k : Continuation) (pc : ℕ) (temps : ℕ → Value) → w ≡ v → Sh n (m ∷ q) (v ∷ vs) temps → By k (pc + 1) (None ∷ q) → NoFault (after (applied_before op v) (λ x. Goes (now_with n (x ∷ vs) k) h))
+        → M used h (after (applied_before op v) (λ x. Goes (now_with n (x ∷ vs) k) h)) (after (prefixed_by op w) (λ x. Goes (here (pc + 1) (with_entry (params + locals + length q) x temps)) (forget h)))
     unary_follows op v w m q vs k pc temps e shows near nf =
-        subst (λ z. M used h (after (negated op v) (λ x. Goes (now_with n (x ∷ vs) k) h)) (after (prefixed_by op z) (λ x. Goes (here (pc + 1) (with_entry (params + locals + length q) x temps)) (forget h)))) (sym e)
+        subst (λ z. M used h (after (applied_before op v) (λ x. Goes (now_with n (x ∷ vs) k) h)) (after (prefixed_by op z) (λ x. Goes (here (pc + 1) (with_entry (params + locals + length q) x temps)) (forget h)))) (sym e)
         (⊎_elim
         (λ stuck_is. absurd (subst (λ x. NoFault (after x (λ x. Goes (now_with n (x ∷ vs) k) h))) stuck_is nf))
-        (λ same. puts_all q vs k pc temps (negated op v) (prefixed_by op v) (subst (λ x. Agree (λ v w. v ≡ w) (negated op v) x) same (agree_same (negated op v))) (shows_rest params locals n m q v vs temps shows) near)
+        (λ same. puts_all q vs k pc temps (applied_before op v) (prefixed_by op v) (subst (λ x. Agree (λ v w. v ≡ w) (applied_before op v) x) same (agree_same (applied_before op v))) (shows_rest params locals n m q v vs temps shows) near)
         (unary_is op v))
 
     -- what an operation gives, of operands that flat code has too

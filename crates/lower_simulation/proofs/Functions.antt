@@ -1,6 +1,7 @@
 -- The functions of a program in its flat code.
 use Rattle.std.proofs.Common.{◌≡◌, ℕ, zero, suc, ◌+◌, ⊎_elim, List, [], ◌∷◌, length, Option, Some, None, Bool, true, false, refl, sym, ap, ◌∙◌, subst, arith}
-use Rattle.std.specs.Prelude.{if◌then◌else◌}
+use Rattle.std.specs.Prelude.{if◌then◌else◌, ◌==◌}
+use Rattle.std.proofs.Math.Dec.{eqb-zero-suc, eqb-suc-zero, eqb-suc-suc}
 use Rattle.std.proofs.lemmas.Bool.Decides.{eqb_tells}
 use Rattle.board_world.specs.Observations.{ByteList}
 use Rattle.flat_ir.specs.declared.ops.Op.{Op}
@@ -8,8 +9,8 @@ use Rattle.flat_ir.specs.declared.ops.Function.{Function}
 use Rattle.sts_syntax.specs.Types.{ValueType}
 use Rattle.sts_syntax.specs.TypedTrees.{TypedRoutine, ClassEntry, TypedProgram}
 use Rattle.sts_syntax.specs.TypeRules.{entry, IsOneOf}
-use Rattle.sts_meaning.specs.Values.{Value, Outcome, Gives, Breaks, Stuck, there}
-use Rattle.sts_meaning.specs.Frames.{as_many, defaults}
+use Rattle.sts_meaning.specs.Values.{Value, Gives, Stuck, there}
+use Rattle.sts_meaning.specs.Frames.{defaults}
 use Rattle.sts_meaning.specs.Steps as source
 use Rattle.sts_implements.specs.Forgotten.{Agree}
 use Rattle.flat_meaning.specs.Operators.{zeros, exactly}
@@ -41,23 +42,12 @@ pub zeros_are : (us : List ValueType) → zeros (length us) ≡ defaults us
 zeros_are [] = refl
 zeros_are (u ∷ us) = ap (λ (vs : List Value). Rattle.sts_meaning.specs.Values.default ∷ vs) (zeros_are us)
 
-pub as_many_is : (ps : List ValueType) (vs : List Value) → as_many ps vs ≡ exactly (length ps) vs
-as_many_is [] [] = refl
-as_many_is [] (v ∷ vs) = refl
-as_many_is (u ∷ us) [] = refl
-as_many_is (u ∷ us) (v ∷ vs) = as_many_is us vs
-
-given : Outcome (Unit {0}) → Bool
-given (Gives x) = true
-given (Breaks code) = false
-given Stuck = false
-
-pub as_many_long : (ps : List ValueType) (vs : List Value) (x : Unit {0}) → as_many ps vs ≡ Gives x → length vs ≡ length ps
-unfolding given
-as_many_long [] [] x h = refl
-as_many_long [] (v ∷ vs) x h = cc (ap given h)
-as_many_long (u ∷ us) [] x h = cc (ap given h)
-as_many_long (u ∷ us) (v ∷ vs) x h = ap suc (as_many_long us vs x h)
+-- exactly so many arguments, by their number
+pub exactly_is : (n : ℕ) (vs : List Value) → (if n == length vs then Gives tt else Stuck) ≡ exactly n vs
+exactly_is zero [] = refl
+exactly_is zero (v ∷ vs) = ap (λ b. if b then Gives tt else Stuck) (eqb-zero-suc (length vs))
+exactly_is (suc n) [] = ap (λ b. if b then Gives tt else Stuck) (eqb-suc-zero n)
+exactly_is (suc n) (v ∷ vs) = ap (λ b. if b then Gives tt else Stuck) (eqb-suc-suc n (length vs)) ∙ exactly_is n vs
 
 -- a list stands at its places
 has_from : (fetch : ℕ → Option Op) (k : ℕ) (ops : List Op) → ((n : ℕ) → fetch (k + n) ≡ entry ops n) → HasAt fetch k ops

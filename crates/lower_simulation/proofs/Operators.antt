@@ -6,33 +6,33 @@ use Rattle.std.proofs.lemmas.Int.{ints, int_wrap-add_left}
 use Rattle.std.proofs.lemmas.Bool.Decides.{eqb_tells}
 use Rattle.board_world.specs.Kinds.{Turn}
 use Rattle.sts_syntax.specs.TypeRules.{entry, IsOne}
-use Rattle.sts_meaning.specs.Values.{Value, Whole, Object, Text, Code, Outcome, Gives, Breaks, Stuck, then_gives, whole, to_int32, negated}
+use Rattle.sts_meaning.specs.Values.{Value, Whole, Object, Text, Code, Outcome, Gives, Breaks, Stuck, then_gives, whole, to_int32, applied_before}
 use Rattle.sts_meaning.specs.Frames.{after}
 use Rattle.sts_implements.specs.Forgotten.{Agree}
 use Rattle.flat_meaning.specs.Operators.{prefixed_by}
 use Rattle.sts_lower.specs.Code.{bump_op, unbump_op}
 
 -- a prefix operator of the source is one of flat code, where it has a meaning
-five : (v : Value) → negated 5 v ≡ Stuck
+five : (v : Value) → applied_before 5 v ≡ Stuck
 five (Whole x) = refl
 five (Object x) = refl
 five (Text x) = refl
 five (Code x) = refl
 
-six : (v : Value) → negated 6 v ≡ Stuck
+six : (v : Value) → applied_before 6 v ≡ Stuck
 six (Whole x) = refl
 six (Object x) = refl
 six (Text x) = refl
 six (Code x) = refl
 
-pub unary_is : (op : ℕ) (v : Value) → (negated op v ≡ Stuck) ⊎ (negated op v ≡ prefixed_by op v)
+pub unary_is : (op : ℕ) (v : Value) → (applied_before op v ≡ Stuck) ⊎ (applied_before op v ≡ prefixed_by op v)
 unary_is op v =
     ⊎_elim
-    (λ y. inl (subst (λ x. negated x v ≡ Stuck) (sym y.1) (five v)))
+    (λ y. inl (subst (λ x. applied_before x v ≡ Stuck) (sym y.1) (five v)))
     (λ y. ⊎_elim
-    (λ z. inl (subst (λ x. negated x v ≡ Stuck) (sym z.1) (six v)))
-    (λ z. inr (sym (ap (λ b. if b then then_gives (whole v) (λ x. Gives (Whole (to_int32 (x +ℤ pos 1)))) else if op == 6 then then_gives (whole v) (λ x. Gives (Whole (to_int32 (x +ℤ negsuc 0)))) else negated op v) y.0
-    ∙ ap (λ b. if b then then_gives (whole v) (λ x. Gives (Whole (to_int32 (x +ℤ negsuc 0)))) else negated op v) z.0)))
+    (λ z. inl (subst (λ x. applied_before x v ≡ Stuck) (sym z.1) (six v)))
+    (λ z. inr (sym (ap (λ b. if b then then_gives (whole v) (λ x. Gives (Whole (to_int32 (x +ℤ pos 1)))) else if op == 6 then then_gives (whole v) (λ x. Gives (Whole (to_int32 (x +ℤ negsuc 0)))) else applied_before op v) y.0
+    ∙ ap (λ b. if b then then_gives (whole v) (λ x. Gives (Whole (to_int32 (x +ℤ negsuc 0)))) else applied_before op v) z.0)))
     (eqb_tells op 6))
     (eqb_tells op 5)
 

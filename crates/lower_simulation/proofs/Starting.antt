@@ -1,7 +1,7 @@
 -- Calls and activities that begin are followed.
 use Rattle.std.proofs.Common.{◌≡◌, ℕ, ◌+◌, ◌-◌, ◌≤◌, inl, inr, List, [], ◌∷◌, length, Option, Some, None, Bool, true, false, refl, sym, ap, ◌∙◌, subst, arith}
-use Rattle.std.specs.Prelude.{pos, if◌then◌else◌, nat_lt}
-use Rattle.std.proofs.lemmas.Bool.{lt-ltb, le-ltb}
+use Rattle.std.specs.Prelude.{pos, if◌then◌else◌, ◌==◌, nat_lt}
+use Rattle.std.proofs.lemmas.Bool.{lt-ltb, le-ltb, eqb-true}
 use Rattle.board_world.specs.Limits.{depth_limit}
 use Rattle.board_world.specs.Panics.{depth_panic}
 use Rattle.board_world.specs.Observations.{ByteList}
@@ -10,10 +10,10 @@ use Rattle.board_world.specs.Sound.{NoFault}
 use Rattle.sts_syntax.specs.TypedTrees.{TypedRoutine, TypedProgram}
 use Rattle.sts_syntax.specs.TypeRules.{entry, IsOneOf}
 use Rattle.sts_syntax.specs.WellTypedPrograms.{is_maker}
-use Rattle.sts_meaning.specs.Values.{Value, Whole, default, Outcome, Gives, Breaks, Stuck, there, map_of}
+use Rattle.sts_meaning.specs.Values.{Value, Whole, default, Gives, Stuck, there, map_of}
 use Rattle.sts_meaning.specs.Heaps.{FlatHeap, Heap}
 use Rattle.sts_meaning.specs.Continuation.{Put, Drop, Ask, Round}
-use Rattle.sts_meaning.specs.Frames.{Names, Frame, Activity, Runs, after, as_many, round}
+use Rattle.sts_meaning.specs.Frames.{Names, Frame, Activity, Runs, stuck, after, round}
 use Rattle.sts_meaning.specs.Steps as source
 use Rattle.sts_implements.specs.Forgotten.{forget}
 use Rattle.flat_meaning.specs.Operators.{exactly}
@@ -28,7 +28,7 @@ use Rattle.lower_simulation.specs.Limits.{IsLight}
 use Rattle.lower_simulation.proofs.Requests.{plain_2}
 use Rattle.lower_simulation.proofs.Statements.{body_at}
 use Rattle.lower_simulation.proofs.Temporaries.{map_past}
-use Rattle.lower_simulation.proofs.Functions.{as_many_is, as_many_long, has_all, routine_there, repeating_there, routine_words, repeating_frames}
+use Rattle.lower_simulation.proofs.Functions.{exactly_is, has_all, routine_there, repeating_there, routine_words, repeating_frames}
 use Rattle.lower_simulation.proofs.Turns.{Match, going, same_fault}
 
 module _ (P : TypedProgram) (texts : List ByteList) (fine : IsFine P) (weight : FlatActivity → FlatHeap → ℕ) (light : IsLight (lowered P) weight) where
@@ -72,22 +72,21 @@ module _ (P : TypedProgram) (texts : List ByteList) (fine : IsFine P) (weight : 
         subst (λ n. M used h (source.entering P texts h base depth a waiting) (if nat_lt depth_limit n then Panics depth_panic else Goes (Stands b waiting' base) (forget h))) d
         (both (nat_lt depth_limit (depth + source.words P texts a.function)))
 
-    args_match : (f : ℕ) (r : TypedRoutine) → entry P.functions f ≡ Some r → (args : List Value) (o : Outcome (Unit {0})) → as_many r.params args ≡ o
-        → M used h (after o (λ _. source.entering P texts h base depth (source.entered P texts f r args) waiting)) (after o (λ _. flat.entering (lowered P) texts (forget h) base waiting' (entered f args)))
-    args_match f r at args (Gives x) e =
+    args_match : (f : ℕ) (r : TypedRoutine) → entry P.functions f ≡ Some r → (args : List Value) (b : Bool) → (length r.params == length args) ≡ b
+        → M used h (if b then source.entering P texts h base depth (source.entered P texts f r args) waiting else stuck) (after (if b then Gives (tt {0}) else Stuck) (λ _. flat.entering (lowered P) texts (forget h) base waiting' (entered f args)))
+    args_match f r at args true e =
         entering_matches (source.entered P texts f r args) (entered f args)
-        (record { params = length r.params; locals = length r.locals; marks = []; words = routine_words P texts f r at; this = fine.this f r at; shows = entered_shows r args (as_many_long r.params args x e); near = inl (entered_lies f r at) })
-    args_match f r at args (Breaks c) e = refl
-    args_match f r at args Stuck e = (refl, refl)
+        (record { params = length r.params; locals = length r.locals; marks = []; words = routine_words P texts f r at; this = fine.this f r at; shows = entered_shows r args (sym (eqb-true (length r.params) (length args) e)); near = inl (entered_lies f r at) })
+    args_match f r at args false e = (refl, refl)
 
-    routine_matches : (f : ℕ) (args : List Value) (o : Option TypedRoutine) → entry P.functions f ≡ o → NoFault (after (there o) (λ r. after (as_many r.params args) (λ _. source.entering P texts h base depth (source.entered P texts f r args) waiting)))
-        → M used h (after (there o) (λ r. after (as_many r.params args) (λ _. source.entering P texts h base depth (source.entered P texts f r args) waiting))) (flat.called (lowered P) texts (forget h) base waiting' f args)
+    routine_matches : (f : ℕ) (args : List Value) (o : Option TypedRoutine) → entry P.functions f ≡ o → NoFault (after (there o) (λ r. if length r.params == length args then source.entering P texts h base depth (source.entered P texts f r args) waiting else stuck))
+        → M used h (after (there o) (λ r. if length r.params == length args then source.entering P texts h base depth (source.entered P texts f r args) waiting else stuck)) (flat.called (lowered P) texts (forget h) base waiting' f args)
     routine_matches f args None at nf = absurd nf
     routine_matches f args (Some r) at nf =
-        let source_turn = after (as_many r.params args) (λ _. source.entering P texts h base depth (source.entered P texts f r args) waiting) in
+        let source_turn = if length r.params == length args then source.entering P texts h base depth (source.entered P texts f r args) waiting else stuck in
         subst (λ x. M used h source_turn (after (there x) (λ r. after (exactly r.params args) (λ _. flat.entering (lowered P) texts (forget h) base waiting' (entered f args))))) (sym (routine_there P f r at))
-        (subst (λ x. M used h source_turn (after x (λ _. flat.entering (lowered P) texts (forget h) base waiting' (entered f args)))) (as_many_is r.params args)
-        (args_match f r at args (as_many r.params args) refl))
+        (subst (λ x. M used h source_turn (after x (λ _. flat.entering (lowered P) texts (forget h) base waiting' (entered f args)))) (exactly_is (length r.params) args)
+        (args_match f r at args (length r.params == length args) refl))
 
     pub called_matches : (f : ℕ) (args : List Value) → NoFault (source.invoked P texts h base depth f args waiting) → M used h (source.invoked P texts h base depth f args waiting) (flat.called (lowered P) texts (forget h) base waiting' f args)
     called_matches f args nf = routine_matches f args (entry P.functions f) refl nf

@@ -4,7 +4,7 @@ ghost use Rattle.std.specs.Prelude.{◌≡◌, ℕ, List};
 ghost use Rattle.board_world.specs.Observations.{ByteList};
 ghost use Rattle.board_world.specs.Board.{Entry};
 ghost use Rattle.board_world.specs.Runs.{Arrival, Rises, run_with};
-ghost use Rattle.board_world.specs.Invariants.{SoundEnd};
+ghost use Rattle.board_world.specs.Implements.{EndsByNoFault};
 ghost use Rattle.board_world.specs.World.{start};
 ghost use Rattle.sts_syntax.specs.TypedTrees.{TypedRoutine, TypedProgram};
 ghost use Rattle.sts_syntax.specs.Measures.{frame_words};
@@ -35,6 +35,6 @@ pub fn lowered_code_does_what_the_source_does()
 pub fn lowered_code_makes_no_fault()
     ensures { (P : TypedProgram) (texts : List ByteList) → IsWellTyped P
         → (until : ℕ) (script : List Entry) (arrivals : List Arrival) → Rises 0 arrivals → (m : ℕ)
-        → SoundEnd (λ kind address. ⊥) (run_with (flat (lowered P) texts) arrivals m
+        → EndsByNoFault (run_with (flat (lowered P) texts) arrivals m
         (start (flat (lowered P) texts) P.main (forget (empty P texts)) until script)).board.end }
 {}

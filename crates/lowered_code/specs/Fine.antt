@@ -32,10 +32,6 @@ module _ (functions : ℕ) (repeated : List ℕ) (params locals : ℕ) where
 
   abbrev mutual
     pub Fine : TypedTree → Type 0
-    Fine (e.Num u n) = Unit {0}
-    Fine (e.Text u n) = Unit {0}
-    Fine (e.Truth u b) = Unit {0}
-    Fine (e.Null u) = Unit {0}
     Fine (e.This u) = 0 < params
     Fine (e.Name u x) = IsThere x
     Fine (e.Unary u op a) = Fine a
@@ -58,6 +54,7 @@ module _ (functions : ℕ) (repeated : List ℕ) (params locals : ℕ) where
     Fine (e.Make u class args) = FineEach args
     Fine (e.Items u items) = FineEach items
     Fine (e.Handler u f) = ⊥
+    Fine _ = Unit {0}
 
     pub FineTarget : TypedTree → Type 0
     FineTarget (e.Name u x) = IsThere x
@@ -86,8 +83,7 @@ module _ (functions : ℕ) (repeated : List ℕ) (params locals : ℕ) where
   -- the three locals of a loop over items
   abbrev pub FineLoop : Spot → Type 0
   FineLoop (Local i) = IsThere (Local (suc (suc i)))
-  FineLoop (Param i) = ⊥
-  FineLoop (Global g) = ⊥
+  FineLoop _ = ⊥
 
   abbrev mutual
     pub FineStatement : TypedStatement → Type 0
@@ -100,10 +96,8 @@ module _ (functions : ℕ) (repeated : List ℕ) (params locals : ℕ) where
     FineStatement (e.For first test step a) = FineFirst first × FineOption test × FineOption step × FineStatement a
     FineStatement (e.ForOf fixed x list a) = FineLoop x × Fine list × FineStatement a
     FineStatement (e.Return value) = FineOption value
-    FineStatement e.Break = Unit {0}
-    FineStatement e.Continue = Unit {0}
     FineStatement (e.Plain a) = Fine a
-    FineStatement e.Empty = Unit {0}
+    FineStatement _ = Unit {0}
 
     pub FineFirst : OptionalTypedStatement → Type 0
     FineFirst e.omitted = Unit {0}

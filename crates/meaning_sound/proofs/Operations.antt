@@ -11,7 +11,7 @@ use Rattle.sts_syntax.specs.Measures.{wider_room}
 use Rattle.sts_syntax.specs.TypeRules.{entry, IsOneOf, arithmetic_operators, order_operators, equality_operators, number_prefixes, Prefixes, AreCompared, Works, HasClass, HasRoutine, Climbs, IsBelow, HasField, HasMethod}
 use Rattle.sts_syntax.specs.WellTyped.{Setting}
 use Rattle.sts_syntax.specs.WellTypedPrograms.{IsWellTyped}
-use Rattle.sts_meaning.specs.Values.{Value, Whole, Object, Text, Code, default, truth, Outcome, Gives, there, same, applied, negated, Bumped, bumped, decided, changed}
+use Rattle.sts_meaning.specs.Values.{Value, Whole, Object, Text, Code, default, truth, Outcome, Gives, there, same, applied, applied_before, Bumped, bumped, decided, changed}
 use Rattle.sts_meaning.specs.Heaps.{Cell, Fields, Items, Heap, fields_of, object_at, Row, items_of, array_at, number_of, read_field, write_field, found, item_at, read_item, write_item, length_at, growth, wider, pushed, behind, last, shorter, popped, numbered, next_at, next_item}
 use Rattle.sts_meaning.specs.Frames.{Names, named}
 use Rattle.sts_meaning.specs.Steps.{method}
@@ -54,7 +54,7 @@ order_gives : (op : ℕ) → IsOneOf op order_operators → GivesTruth op
 order_gives op h = of_one GivesTruth order_operators op ((λ x y. (_, refl)), ((λ x y. (_, refl)), ((λ x y. (_, refl)), ((λ x y. (_, refl)), tt)))) h
 
 abbrev PrefixGives : ℕ → Type 0
-PrefixGives op = (x : ℤ) → (n : ℤ) × (negated op (Whole x) ≡ Gives (Whole n))
+PrefixGives op = (x : ℤ) → (n : ℤ) × (applied_before op (Whole x) ≡ Gives (Whole n))
 
 prefix_gives : (op : ℕ) → IsOneOf op number_prefixes → PrefixGives op
 prefix_gives op h = of_one PrefixGives number_prefixes op ((λ x. (_, refl)), ((λ x. (_, refl)), ((λ x. (_, refl)), tt))) h
@@ -169,14 +169,14 @@ module _ (P : TypedProgram) where
   applied_well h op u v w x y (inr (inr k)) p q =
       at_type h t.Boolean w (applied op x y) (sym k.2) (equality_tells op k.0 h x y (compared_well h u v x y k.1 p q))
 
-  pub negated_well : (h : Heap) (op : ℕ) (u w : ValueType) (x : Value) → Prefixes op u w → Is P h u x → Well (Is P h w) (negated op x)
-  negated_well h op u w x (inl k) p =
+  pub applied_before_well : (h : Heap) (op : ℕ) (u w : ValueType) (x : Value) → Prefixes op u w → Is P h u x → Well (Is P h w) (applied_before op x)
+  applied_before_well h op u w x (inl k) p =
       (let a = number_whole h x (as_type h u t.Number x k.1 p) in let g = prefix_gives op k.0 a.0 in
-      at_type h t.Number w (negated op x) (sym k.2) (subst (λ (z : Value). Well (Is P h t.Number) (negated op z)) (sym a.1) (subst (λ (o : Outcome Value). Well (Is P h t.Number) o) (sym g.1) tt)))
-  negated_well h op u w x (inr k) p =
+      at_type h t.Number w (applied_before op x) (sym k.2) (subst (λ (z : Value). Well (Is P h t.Number) (applied_before op z)) (sym a.1) (subst (λ (o : Outcome Value). Well (Is P h t.Number) o) (sym g.1) tt)))
+  applied_before_well h op u w x (inr k) p =
       (let a = truth_whole h x (as_type h u t.Boolean x k.1 p) in
-      at_type h t.Boolean w (negated op x) (sym k.2) (subst (λ (z : Value). Well (Is P h t.Boolean) (negated op z)) (sym a.1)
-      (subst (λ (o : ℕ). Well (Is P h t.Boolean) (negated o (Whole a.0))) (sym k.0) (truth_is h (int_eq a.0 (pos 0))))))
+      at_type h t.Boolean w (applied_before op x) (sym k.2) (subst (λ (z : Value). Well (Is P h t.Boolean) (applied_before op z)) (sym a.1)
+      (subst (λ (o : ℕ). Well (Is P h t.Boolean) (applied_before o (Whole a.0))) (sym k.0) (truth_is h (int_eq a.0 (pos 0))))))
 
   -- a number and the one behind it are numbers
   pub record AreBumped (h : Heap) (b : Bumped) : Type 0 where

@@ -1,6 +1,7 @@
 -- Each step of a typed activity leaves all typed, and is no fault.
 use Rattle.std.proofs.Common.{◌≡◌, ℕ, zero, suc, ◌+◌, ◌-◌, ◌<◌, inl, inr, ℤ, pos, Bool, true, false, if◌then◌else◌, nat_lt, List, [], ◌∷◌, length, Option, Some, None, refl, ap, sym, ◌∙◌, subst, arith}
 use Rattle.std.specs.Prelude.{◌+ℤ◌}
+use Rattle.std.proofs.lemmas.Bool.{eq-eqb}
 use Rattle.std.proofs.lemmas.Bool.Decides.{nat_tests}
 use Rattle.board_world.specs.declared.requests.Request.{Request}
 use Rattle.board_world.specs.declared.requests.Request.TheVariants as q
@@ -10,6 +11,7 @@ use Rattle.board_world.specs.Kinds.{Turn, Goes}
 use Rattle.board_world.specs.Requests.{Asker, asked}
 use Rattle.board_world.specs.Simulation.{Paired}
 use Rattle.board_world.specs.Sound.{After, Further, Stays, Sound}
+use Rattle.board_world.proofs.Laws.{paired_length}
 use Rattle.sts_syntax.specs.declared.typed.Spot.{Spot}
 use Rattle.sts_syntax.specs.declared.typed.Spot.TheVariants.{Param, Local, Global}
 use Rattle.sts_syntax.specs.Types as t
@@ -19,18 +21,18 @@ use Rattle.sts_syntax.specs.Measures.{object_words, array_words}
 use Rattle.sts_syntax.specs.TypeRules.{entry, HasClass, HasRoutine, MayBegin}
 use Rattle.sts_syntax.specs.WellTyped.{Setting, IsSound}
 use Rattle.sts_syntax.specs.WellTypedPrograms.{is_maker, setting, base_of_maker, IsWellTyped}
-use Rattle.sts_meaning.specs.Values.{to_int32, bumped, then_gives, Value, Whole, Object, Text, Code, default, Outcome, Gives, Breaks, Stuck, there, applied, negated, decided, changed, with_entry}
+use Rattle.sts_meaning.specs.Values.{to_int32, bumped, then_gives, Value, Whole, Object, Text, Code, default, Outcome, Gives, Breaks, Stuck, there, applied, applied_before, decided, changed, with_entry}
 use Rattle.sts_meaning.specs.Heaps.{popped, Fields, Items, Heap, with_cell, read_field, write_field, read_item, write_item, length_at, pushed, next_item}
 use Rattle.sts_meaning.specs.Services.{requested}
 use Rattle.sts_meaning.specs.Continuation.{Continuation, Put, Get, Store, Drop, Unary, Apply, Choose, Both, Either, Read, Peek, Write, At, PeekAt, SetAt, Bump, BumpField, BumpAt, Measure, Push, Pop, Open, Append, New, Build, Invoke, Send, Ask, Repeat, Again, Each, Leave, Give, Round, runs}
-use Rattle.sts_meaning.specs.Frames.{Names, Frame, Activity, Starts, Runs, after, with_latest, with_two, with_three, taken, named, with_local, with_param, stored, defaults, as_many, first, answered, round, grown}
+use Rattle.sts_meaning.specs.Frames.{Names, Frame, Activity, Starts, Runs, stuck, after, with_latest, with_two, with_three, taken, named, with_local, with_param, stored, defaults, first, answered, round, grown}
 use Rattle.sts_meaning.specs.Steps.{repeating, words, entered, entered_round, method, entering, invoked, ended, begun, at, now, now_with, asker, takes_item, act, step, source, empty}
 use Rattle.meaning_sound.specs.Sorts.{Sort, Of, Begins, Exactly, of_types, above, Well, May, Is, IsA, IsRequest, Asks}
 use Rattle.meaning_sound.specs.Fits.{Answers, Given, IsStored, FitsValues}
 use Rattle.meaning_sound.specs.Kept.{Grows, IsHeap, Holds, AreNamed, GivesThis, IsFrame, Wait, IsActivity, typed}
 use Rattle.meaning_sound.proofs.Lists.{some_same, paired_changed, paired_entry, paired_weak, entry_cases, entry_here}
 use Rattle.meaning_sound.proofs.Growth.{same_suits, default_is, goes_is, suits_is, is_on, holds_on, names_on, wait_on, activity_on, cell_on, Changed, cell_new, unchanged, defaults_are, then_well, AreTaken, taken_well, types_are, params_are}
-use Rattle.meaning_sound.proofs.Operations.{AreBumped, bumped_well, negated_well, popped_well, applied_well, decided_well, read_field_well, write_field_well, IsFoundMethod, method_well, read_item_well, write_item_well, length_well, pushed_well, IsNext, next_item_well, named_well}
+use Rattle.meaning_sound.proofs.Operations.{AreBumped, bumped_well, applied_before_well, popped_well, applied_well, decided_well, read_field_well, write_field_well, IsFoundMethod, method_well, read_item_well, write_item_well, length_well, pushed_well, IsNext, next_item_well, named_well}
 use Rattle.meaning_sound.proofs.Trees.{runs_fit}
 use Rattle.meaning_sound.proofs.Functions.{entry_below, this_is, no_maker, body_fits}
 
@@ -118,12 +120,6 @@ module _ (P : TypedProgram) (good : IsWellTyped P) (texts : List ByteList) where
         fits = round_fits repeater g may;
       }
 
-  as_many_well : (h : Heap) (us : List ValueType) (vs : List Value) → Paired (Is P h) us vs → Well (λ x. Unit {0}) (as_many us vs)
-  as_many_well h [] [] p = tt
-  as_many_well h (u ∷ us) (v ∷ vs) p = as_many_well h us vs p.1
-  as_many_well h [] (v ∷ vs) p = absurd p
-  as_many_well h (u ∷ us) [] p = absurd p
-
   -- a call
   entering_typed : (used : ℕ) (h : Heap) (base depth : ℕ) (frame : Frame) (S : Setting) (waiting : List Frame) → IsHeap P used h → IsFrame P h [] frame S → Wait P h S.routine.gives waiting
       → Typed used h (entering P texts h base depth frame waiting)
@@ -135,8 +131,8 @@ module _ (P : TypedProgram) (good : IsWellTyped P) (texts : List ByteList) where
       → Typed used h (invoked P texts h base depth f args waiting)
   invoked_typed used h base depth f r args waiting heap has p wait =
       there_typed used h (entry P.functions f) r _ has
-      (after_typed (λ x. Unit {0}) used h (as_many r.params args) _ (as_many_well h r.params args p) (λ x _.
-      entering_typed used h base depth (entered P texts f r args) (setting P f r) waiting heap (entered_is h f r args has p) wait))
+      (subst (λ (b : Bool). Typed used h (if b then entering P texts h base depth (entered P texts f r args) waiting else stuck)) (sym (eq-eqb (length r.params) (length args) (paired_length (Is P h) r.params args p)))
+      (entering_typed used h base depth (entered P texts f r args) (setting P f r) waiting heap (entered_is h f r args has p) wait))
 
   -- a frame's end
   ended_typed : (used : ℕ) (h : Heap) (base depth f : ℕ) (u : ValueType) (v : Value) (waiting : List Frame) → IsHeap P used h → Is P h u v → Wait P h u waiting
@@ -352,7 +348,7 @@ module _ (P : TypedProgram) (good : IsWellTyped P) (texts : List ByteList) where
     act_typed (Drop k) (s ∷ ss) [] holds fits = absurd holds
     act_typed (Unary op k) (Of u ∷ ss) vs holds fits =
         latest_typed used h (Of u) ss vs _ holds (λ v rest e i low.
-        after_typed (Is P h fits.0) used h (negated op v) _ (negated_well P h op u fits.0 v fits.1 i) (λ w p. gives (Of fits.0) w ss rest k p low fits.2))
+        after_typed (Is P h fits.0) used h (applied_before op v) _ (applied_before_well P h op u fits.0 v fits.1 i) (λ w p. gives (Of fits.0) w ss rest k p low fits.2))
     act_typed (Apply op k) (Of v ∷ (Of u ∷ ss)) vs holds fits =
         two_typed used h (Of v) (Of u) ss vs _ holds (λ a b rest e i j low.
         after_typed (Is P h fits.0) used h (applied op a b) _ (applied_well P h op u v fits.0 a b fits.1 i j) (λ w p. gives (Of fits.0) w ss rest k p low fits.2))

@@ -82,27 +82,12 @@ module _ (P : TypedProgram) where
 
   -- a request that a typed activity may make: who is named begins typed
   abbrev pub IsRequest : Request → Type 0
-  IsRequest (q.Pause n) = Unit {0}
-  IsRequest (q.Wait e) = Unit {0}
   IsRequest (q.Spawn f) = May f
   IsRequest (q.Listen l) = May l.handler
-  IsRequest (q.Raise e) = Unit {0}
-  IsRequest (q.RaiseNow e) = Unit {0}
-  IsRequest (q.Plot x y m) = Unit {0}
-  IsRequest (q.Show n) = Unit {0}
-  IsRequest (q.WriteNumber n) = Unit {0}
-  IsRequest (q.WriteText n) = Unit {0}
-  IsRequest (q.PinWrite p v) = Unit {0}
-  IsRequest (q.Radio n) = Unit {0}
-  IsRequest q.Time = Unit {0}
-  IsRequest q.EventValue = Unit {0}
-  IsRequest (q.Button n) = Unit {0}
-  IsRequest (q.TextGlyph t i) = Unit {0}
-  IsRequest (q.NumberGlyph n i) = Unit {0}
   IsRequest (q.Allocate n) = ⊥
   IsRequest (q.Push a v) = ⊥
-  IsRequest (q.Panic n) = Unit {0}
   IsRequest q.End = ⊥
+  IsRequest _ = Unit {0}
 
   -- a service takes values of these sorts
   abbrev pub Asks : ℕ → List Sort → Type 0

@@ -4,7 +4,7 @@ ghost use Rattle.std.specs.Prelude.{ℕ, List};
 ghost use Rattle.board_world.specs.Observations.{ByteList};
 ghost use Rattle.board_world.specs.Board.{Entry};
 ghost use Rattle.board_world.specs.Runs.{Arrival, Rises, run_with};
-ghost use Rattle.board_world.specs.Invariants.{SoundEnd};
+ghost use Rattle.board_world.specs.Implements.{EndsByNoFault};
 ghost use Rattle.board_world.specs.Sound.{Sound};
 ghost use Rattle.sts_syntax.specs.TypedTrees.{TypedProgram};
 ghost use Rattle.sts_syntax.specs.WellTypedPrograms.{IsWellTyped};
@@ -17,10 +17,10 @@ ghost use Rattle.meaning_sound.specs.Kept.{typed};
 pub fn typed_programs_make_no_fault()
     ensures alone { (P : TypedProgram) (texts : List ByteList) → IsWellTyped P
         → (until : ℕ) (script : List Entry) (n : ℕ)
-        → SoundEnd (λ kind address. ⊥) (source_run P texts until script n).board.end }
+        → EndsByNoFault (source_run P texts until script n).board.end }
     ensures under_arrivals { (P : TypedProgram) (texts : List ByteList) → IsWellTyped P
         → (until : ℕ) (script : List Entry) (arrivals : List Arrival) → Rises 0 arrivals → (n : ℕ)
-        → SoundEnd (λ kind address. ⊥)
+        → EndsByNoFault
         (run_with (source P texts) arrivals n (source_start P texts until script)).board.end }
 {}
 

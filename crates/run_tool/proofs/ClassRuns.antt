@@ -180,7 +180,7 @@ module _ (class : ClassFile) (sources : List BoardSource) (setups : List Setup) 
         let named : text ≡ cut_text (length d.below) (world.world_of class.end d.here).board (boards_now class.end d.below) (boards_now class.end (d.below ++ d.here ∷ d.above)) =
         ap (λ n. cut_text n (world.world_of class.end d.here).board (boards_now class.end d.below) (boards_now class.end (d.below ++ d.here ∷ d.above))) (sym d.at) in
         record {
-          ends = (text, inr (cut-text d.frees text (record { below = d.below; here = d.here; above = d.above; cut = d.cut; steps = d.steps; is = named })), d.written);
+          ends = (text, inr (cut-text d.frees text (record { below = d.below; here = d.here; above = d.above; cut = d.cut; steps = d.steps; within = d.within; is = named })), d.written);
           later = later;
           cut = λ e. absurd (cc);
         })

@@ -3,7 +3,8 @@ use Rattle.std.proofs.Common.{◌≡◌, ◌⊎◌, codes, ℕ, List, [], inl, i
 use Rattle.std.specs.Prelude.{Option, Some, None, Bool, true, false, IsSomeAnd}
 use Rattle.std.proofs.lemmas.Bool.{false≢true}
 use Rattle.board_world.specs.Observations.{ByteList, End, Quietly, By_script, Panicked, Faulted}
-use Rattle.board_world.specs.Invariants.{SoundEnd}
+use Rattle.board_world.specs.Board.{Board}
+use Rattle.board_world.specs.Implements.{EndsByNoFault}
 use Rattle.sts_syntax.specs.TypedTrees.{TypedProgram}
 use Rattle.hex_image.specs.Writing.{hextext}
 use Rattle.event_script.specs.declared.script.Script.{Script}
@@ -61,7 +62,7 @@ onwards files files' (Some (run_big size budget stats)) answer on h = program-on
 
 module _ {B : Type 0} (sink : OfSink) (devices : OfDevices B) (lead : List ℕ) where
   ends-complete : (files : ToldFiles) (asked : Option Asked) (ending : Ending) (number : ℕ)
-      → number ≡ ending_number ending → CommandEnds sink devices lead (MayAnswer files asked) ending → (ending ≡ Cut → Rose sink.failed sink.fails) → CompletesCommand files sink asked number
+      → number ≡ ending_number ending → CommandEnds sink devices lead (MayAnswer files asked) ending → (ending ≡ Cut → Rose sink.faults_before sink.faults_after) → CompletesCommand files sink asked number
   ends-complete files asked (Gave given) number e s cut = λ fine. inl (s.0, onwards files (unfailing files.told) asked s.0 (quietly files fine.0) s.1, e ∙ ap status_number s.2)
   ends-complete files asked Cut number e s cut = λ fine. absurd (fine.1 (cut refl))
   ends-complete files asked NoMemory number e s cut = λ fine. inr e
@@ -129,7 +130,7 @@ abbrev of_program : Status → Bool
 of_program status.Faulted = false
 of_program other = of_run other
 
-program-of : (end : Option End) → SoundEnd (λ kind address. ⊥) end → of_program (run_status end) ≡ true
+program-of : (end : Option End) → EndsByNoFault end → of_program (run_status end) ≡ true
 program-of None h = refl
 program-of (Some Quietly) h = refl
 program-of (Some By_script) h = refl
@@ -139,8 +140,8 @@ program-of (Some (Faulted kind address)) h = absurd h
 program-status : (P : TypedProgram) (texts : List ByteList) (script : Script) (budget : ℕ) (stats image : Bool) (answer : Answer) → RunsProgram P texts script budget stats image answer
     → of_program (status_of answer) ≡ true
 program-status P texts script budget stats image answer r =
-    let sound : SoundEnd (λ kind address. ⊥) (source_after P texts script r.steps).board.end =
-    subst (λ e. SoundEnd (λ kind address. ⊥) e) (sym r.reaches.alike.end) (faultless P texts r.image r.implements script r.free r.executed) in
+    let sound : EndsByNoFault (source_after P texts script r.steps).board.end =
+    subst (λ (b : Board). EndsByNoFault b.end) (sym r.reaches.board) (faultless P texts r.image r.implements script r.free r.executed) in
     ap (λ a. of_program (status_of a)) r.is ∙ program-of (source_after P texts script r.steps).board.end sound
 
 at-status : (P : TypedProgram) (texts : List ByteList) (script : Script) (come : List Arrival) (budget : ℕ) (answer : Answer) → RunsProgramAt P texts script come budget answer → of_program (status_of answer) ≡ true
@@ -486,5 +487,5 @@ module _ {B : Type 0} {sink : OfSink} {devices : OfDevices B} {lead : List ℕ} 
   pub folder-failed : number ≡ 20 → files.rose
   folder-failed is = (let k = given-answer (MayAnswer files asked) status.FolderFailed ending (failed-20 ending (sym is ∙ n)) s in failed-answer files asked k.0 (ap of_folder k.2) k.1)
 
-  pub sink-failed : number ≡ 22 → Rose sink.failed sink.fails
+  pub sink-failed : number ≡ 22 → Rose sink.faults_before sink.faults_after
   sink-failed is = s.cut (cut-22 ending (sym is ∙ n))

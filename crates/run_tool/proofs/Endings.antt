@@ -134,7 +134,7 @@ concludes-after {S} {B} {devices} {lead} taken faults old between new may ending
 }
 
 module _ {B : Type 0} (account : B → Account) (places places' : List (Option B)) (same : places' ≡ places) where
-  ends-said : (may : Answer → Type 0) (sink : OfSink) (ending : Ending) → SaysAnswer may sink.had sink.has ending → CommandEnds sink (of_devices account places places') [] may ending
+  ends-said : (may : Answer → Type 0) (sink : OfSink) (ending : Ending) → SaysAnswer may sink.taken_before sink.taken_after ending → CommandEnds sink (of_devices account places places') [] may ending
   ends-said may sink (Gave status) s = (says status s.0, s.1, refl, s.2, same)
   ends-said may sink Cut s = (says s.0 s.1, s.2, (s.3, same))
   ends-said may sink NoMemory s = (inl s, same)
@@ -144,9 +144,9 @@ module _ {B : Type 0} (account : B → Account) (places places' : List (Option B
       → Concludes (of_sink taken faults old new) (of_devices account places places') [] may ending
   says-concludes {S} {taken} {faults} {old} {new} may ending s = record { ends = ends-said may (of_sink taken faults old new) ending s.ends; later = s.later; cut = s.cut }
 
-  ends-led : (lead : List ℕ) (may : Answer → Type 0) (sink : OfSink) (ending : Ending) → SaysAnswer (Led lead may) sink.had sink.has ending → CommandEnds sink (of_devices account places places') lead may ending
-  ends-led lead may sink (Gave given) s = (let l = s.1 in (says l.0 l.1, l.2, ap status_of l.3, subst (λ x. Took sink.had sink.has x) (ap output_of l.3) s.2, same))
-  ends-led lead may sink Cut s = (let l = s.2 in (says l.0 l.1, l.2, (subst (λ x. TookPart sink.had sink.has x) (ap output_of l.3) s.3, same)))
+  ends-led : (lead : List ℕ) (may : Answer → Type 0) (sink : OfSink) (ending : Ending) → SaysAnswer (Led lead may) sink.taken_before sink.taken_after ending → CommandEnds sink (of_devices account places places') lead may ending
+  ends-led lead may sink (Gave given) s = (let l = s.1 in (says l.0 l.1, l.2, ap status_of l.3, subst (λ x. Took sink.taken_before sink.taken_after x) (ap output_of l.3) s.2, same))
+  ends-led lead may sink Cut s = (let l = s.2 in (says l.0 l.1, l.2, (subst (λ x. TookPart sink.taken_before sink.taken_after x) (ap output_of l.3) s.3, same)))
   ends-led lead may sink NoMemory s = (inl s, same)
 
   -- the same behind the line that the command begins with
@@ -154,12 +154,12 @@ module _ {B : Type 0} (account : B → Account) (places places' : List (Option B
       → GivesOneOf taken faults old new (Led lead may) ending → Concludes (of_sink taken faults old new) (of_devices account places places') lead may ending
   led-concludes {S} {taken} {faults} {old} {new} lead may ending s = record { ends = ends-led lead may (of_sink taken faults old new) ending s.ends; later = s.later; cut = s.cut }
 
-  cut-in-lead : (lead : List ℕ) (answer : Answer) (sink : OfSink) → TookPart sink.had sink.has lead → IsAnswerCut sink (of_devices account places places') lead answer
+  cut-in-lead : (lead : List ℕ) (answer : Answer) (sink : OfSink) → TookPart sink.taken_before sink.taken_after lead → IsAnswerCut sink (of_devices account places places') lead answer
   cut-in-lead lead (says status output) sink t = (part-more lead output t, same)
   cut-in-lead lead (runs status moves behind) sink t = inl (t, same)
 
   -- the sink stopped that line, and an answer is due
-  pub lead-concludes : (sink : OfSink) (lead : List ℕ) (may : Answer → Type 0) (answer : Answer) → may answer → TookPart sink.had sink.has lead → sink.failed ≤ sink.fails → Rose sink.failed sink.fails
+  pub lead-concludes : (sink : OfSink) (lead : List ℕ) (may : Answer → Type 0) (answer : Answer) → may answer → TookPart sink.taken_before sink.taken_after lead → sink.faults_before ≤ sink.faults_after → Rose sink.faults_before sink.faults_after
       → Concludes sink (of_devices account places places') lead may Cut
   lead-concludes sink lead may answer due t later rose = record { ends = (answer, due, cut-in-lead lead answer sink t); later = later; cut = λ e. rose }
 

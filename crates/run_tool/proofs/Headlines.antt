@@ -15,11 +15,11 @@ use Rattle.board_world.specs.Kinds.{Kind}
 use Rattle.board_world.specs.Activities.{World}
 use Rattle.board_world.specs.Runs.{run}
 use Rattle.board_world.proofs.Laws.{run_over, run_sum}
-use Rattle.board_ports.specs.History.{PortMove, entries_of, entries_at, unplugs, unplugged_at}
+use Rattle.board_ports.specs.History.{PortMove, entries_of, entries_at, unplugs, unplugged_at, words_sent}
 use Rattle.board_ports.proofs.Laws.{places_as}
 use Rattle.tool_io.specs.Putting.{Took}
 use Rattle.board_outside.specs.Moves.{Move, Seen, Unplugged, seen_of, unplugged_of}
-use Rattle.board_outside.specs.Ports.{words_of, bytes_sent, port_moves, DevicesAfter}
+use Rattle.board_outside.specs.Ports.{serial_port, words_of, port_moves, DevicesAfter}
 use Rattle.sts_syntax.specs.TypedTrees.{TypedProgram}
 use Rattle.sts_meaning.specs.Steps.{source, source_start}
 use Rattle.event_script.specs.declared.script.Script.{Script}
@@ -48,7 +48,7 @@ use Rattle.run_tool.specs.Run.{RunsProgram}
 use Rattle.run_tool.specs.Statistics.{asked_behind}
 use Rattle.run_tool.specs.Orders.{MayAnswer, lead_of}
 use Rattle.run_tool.specs.Told.{IsToldProgram, IsToldScript}
-use Rattle.run_tool.specs.Headline.{AskedRun, Aftermath, AsksForRun, LacksMemory, source_board, IsTranscript, IsRunOfImage, Headline}
+use Rattle.run_tool.specs.Headline.{AskedRun, AsksForRun, LacksMemory, source_board, IsTranscript, IsRunOfImage, Headline}
 
 -- the bytes of a file stand for one script, and then break no rule
 abbrev script_or : Script → Result Script ScriptCode → Script
@@ -119,20 +119,20 @@ program-file-told one answers files name tables P answer calm p h =
     program-told one answers p.0 tables P answer p.2 (file-told (OverProgram answers) files name p.0 answer p.1 (program-fits p.0 tables P p.2) calm h)
 
 -- the words and the unplugs of moves are those of what was seen and unplugged
-abbrev words_sent : List Observation → List PortMove
-words_sent seen = flat_map words_of seen
+abbrev all_sent : List Observation → List PortMove
+all_sent seen = flat_map words_of seen
 
 abbrev is_unplugged : List (ℕ × ℕ) → ℕ → Bool
 is_unplugged unplugs port = list_any (λ unplug. unplug.0 == port) unplugs
 
-words-met : (moves : List Move) (k : ℕ) → entries_at (words_sent (seen_of moves)) k ≡ entries_at (port_moves moves) k
+words-met : (moves : List Move) (k : ℕ) → entries_at (all_sent (seen_of moves)) k ≡ entries_at (port_moves moves) k
 words-met [] k = refl
 words-met (Seen o ∷ moves) k =
-    flat_map-append (entries_of k) (words_of o) (words_sent (seen_of moves)) ∙ ap (λ es. flat_map (entries_of k) (words_of o) ++ es) (words-met moves k)
+    flat_map-append (entries_of k) (words_of o) (all_sent (seen_of moves)) ∙ ap (λ es. flat_map (entries_of k) (words_of o) ++ es) (words-met moves k)
     ∙ sym (flat_map-append (entries_of k) (words_of o) (port_moves moves))
 words-met (Unplugged port ∷ moves) k = words-met moves k
 
-bytes-unplug-none : (at : ℕ) (bytes : ByteList) (k : ℕ) → list_any (unplugs k) (bytes_sent at bytes) ≡ false
+bytes-unplug-none : (at : ℕ) (bytes : ByteList) (k : ℕ) → list_any (unplugs k) (words_sent serial_port at bytes) ≡ false
 bytes-unplug-none at [] k = refl
 bytes-unplug-none at (b ∷ bytes) k = bytes-unplug-none at bytes k
 
@@ -165,13 +165,13 @@ module _ {A S : Type 0} (K : Kind A S) (w : World A S) where
 
 -- a run as the words ask for it
 abbrev RunsAsked : AskedRun → Answer → Type 0
-RunsAsked t answer = RunsProgram t.program t.tables.texts t.script t.budget t.stats t.image answer
+RunsAsked t answer = RunsProgram t.program t.tables.texts t.script t.budget t.with_stats t.with_image answer
 
-recast : (t : AskedRun) (budget : ℕ) (stats image : Bool) (answer : Answer) → t.budget ≡ budget → t.stats ≡ stats → t.image ≡ image
+recast : (t : AskedRun) (budget : ℕ) (stats image : Bool) (answer : Answer) → t.budget ≡ budget → t.with_stats ≡ stats → t.with_image ≡ image
     → RunsProgram t.program t.tables.texts t.script budget stats image answer → RunsAsked t answer
 recast t budget stats image answer b c d r =
-    subst (λ x. RunsProgram t.program t.tables.texts t.script x t.stats t.image answer) (sym b)
-    (subst (λ x. RunsProgram t.program t.tables.texts t.script budget x t.image answer) (sym c)
+    subst (λ x. RunsProgram t.program t.tables.texts t.script x t.with_stats t.with_image answer) (sym b)
+    (subst (λ x. RunsProgram t.program t.tables.texts t.script budget x t.with_image answer) (sym c)
     (subst (λ x. RunsProgram t.program t.tables.texts t.script budget stats x answer) (sym d) r))
 
 -- what may be answered where words ask for a run is that
@@ -191,46 +191,40 @@ module _ (one : OneAnswer) (files : ToldFiles) (calm : ¬ files.rose) where
   )
   asked-answer other t a = absurd a
 
-module _ {B : Type 0} (sink : OfSink) (devices : OfDevices B) (t : AskedRun) (number : ℕ) (had : List ℕ) (e : sink.had ≡ Some had) where
+module _ {B : Type 0} (sink : OfSink) (devices : OfDevices B) (t : AskedRun) (number : ℕ) where
   abbrev Left : Type 0
   Left =
-      (written : List ℕ) × (sink.has ≡ Some (had ++ written))
-      × (let a : Aftermath B = record { status = number; written = written; devices = devices } in
-      LacksMemory t a ⊎ ((steps executed : ℕ) × (image : List ℕ) × IsTranscript t a steps executed image × IsRunOfImage t steps executed image))
+      LacksMemory t sink devices number ⊎ ((steps executed : ℕ) × (image : List ℕ) × IsTranscript t sink devices number steps executed image × IsRunOfImage t steps executed image)
 
   -- a run that was answered whole
-  given : (answer : Answer) (status : Status) → number ≡ status_number status → status ≡ status_of answer → Took sink.had sink.has (t.lead ++ output_of answer) → Leaves devices answer
+  given : (answer : Answer) (status : Status) → number ≡ status_number status → status ≡ status_of answer → Took sink.taken_before sink.taken_after (t.lead ++ output_of answer) → Leaves devices answer
       → RunsAsked t answer → Left
   given answer status n s took left r =
       let b : Board = source_board t r.steps in
-      let behind = closing_line b.clock b.end ++ asked_behind t.stats t.image b r.executed r.image in
-      let whole : Took sink.had sink.has (t.lead ++ (lines (seen_of r.moves) ++ behind)) = subst (λ a. Took sink.had sink.has (t.lead ++ output_of a)) r.is took in
-      let moved : DevicesAfter devices.account r.moves devices.before devices.behind = subst (λ a. Leaves devices a) r.is left in (
-        t.lead ++ (lines (seen_of r.moves) ++ behind),
-        whole.told had e,
-        inr (
-          r.steps,
-          r.executed,
-          r.image,
-          record {
-            written = ap (λ seen. t.lead ++ (lines seen ++ behind)) (sym r.met.seen);
-            at_most = r.reaches.at_most;
-            whole = λ m within o. shown-whole (source t.program t.tables.texts) (source_start t.program t.tables.texts t.script.end (world_entries t.script.entries)) m r.steps o (r.reaches.at_least m within);
-            at_least = r.reaches.at_least;
-            status = n ∙ ap status_number (s ∙ ap status_of r.is);
-            devices = places_as devices.account (entries_at (port_moves r.moves)) (entries_at (words_sent b.seen)) (unplugged_at (port_moves r.moves)) (is_unplugged b.unplugged) devices.before devices.behind
-                (λ k. ap (λ seen. entries_at (words_sent seen) k) r.met.seen ∙ words-met r.moves k) (λ k. ap (λ us. is_unplugged us k) r.met.unplugged ∙ unplugs-met 0 r.moves k) moved;
-          },
-          record { is_image = r.is_image; implements = r.implements; free = r.free; is_executed = r.reaches.is_executed; alike = r.reaches.alike },
-        ),
+      let behind = closing_line b.clock b.end ++ asked_behind t.with_stats t.with_image b r.executed r.image in
+      let whole : Took sink.taken_before sink.taken_after (t.lead ++ (lines (seen_of r.moves) ++ behind)) = subst (λ a. Took sink.taken_before sink.taken_after (t.lead ++ output_of a)) r.is took in
+      let moved : DevicesAfter devices.account r.moves devices.before devices.after = subst (λ a. Leaves devices a) r.is left in
+      inr (
+        r.steps,
+        r.executed,
+        r.image,
+        record {
+          written = subst (λ seen. Took sink.taken_before sink.taken_after (t.lead ++ (lines seen ++ behind))) (sym r.met.seen) whole;
+          at_most = r.reaches.at_most;
+          whole = λ m within o. shown-whole (source t.program t.tables.texts) (source_start t.program t.tables.texts t.script.end (world_entries t.script.entries)) m r.steps o (r.reaches.at_least m within);
+          at_least = r.reaches.at_least;
+          status = n ∙ ap status_number (s ∙ ap status_of r.is);
+          met = places_as devices.account (entries_at (port_moves r.moves)) (entries_at (all_sent b.seen)) (unplugged_at (port_moves r.moves)) (is_unplugged b.unplugged) devices.before devices.after
+              (λ k. ap (λ seen. entries_at (all_sent seen) k) r.met.seen ∙ words-met r.moves k) (λ k. ap (λ us. is_unplugged us k) r.met.unplugged ∙ unplugs-met 0 r.moves k) moved;
+        },
+        record { is_image = r.is_image; implements = r.implements; free = r.free; is_executed = r.reaches.is_executed; board = r.reaches.board },
       )
 
   -- there was no memory
-  unmade : number ≡ 30 → (Took sink.had sink.has [] ⊎ Took sink.had sink.has t.lead) → devices.behind ≡ devices.before → Left
-  unmade n (inl took) same = ([], took.told had e, inl (n, inl refl, same))
-  unmade n (inr took) same = (t.lead, took.told had e, inl (n, inr refl, same))
+  unmade : number ≡ 30 → (Took sink.taken_before sink.taken_after [] ⊎ Took sink.taken_before sink.taken_after t.lead) → devices.after ≡ devices.before → Left
+  unmade n took same = inl (n, took, same)
 
-  ended : (may : Answer → Type 0) (ending : Ending) → number ≡ ending_number ending → CommandEnds sink devices t.lead may ending → (ending ≡ Cut → Rose sink.failed sink.fails) → ¬ Rose sink.failed sink.fails
+  ended : (may : Answer → Type 0) (ending : Ending) → number ≡ ending_number ending → CommandEnds sink devices t.lead may ending → (ending ≡ Cut → Rose sink.faults_before sink.faults_after) → ¬ Rose sink.faults_before sink.faults_after
       → ((answer : Answer) → may answer → RunsAsked t answer) → Left
   ended may (Gave status) n s cut calm runs = given s.0 status n s.2 s.3 s.4 (runs s.0 s.1)
   ended may Cut n s cut calm runs = absurd (calm (cut refl))
@@ -239,6 +233,6 @@ module _ {B : Type 0} (sink : OfSink) (devices : OfDevices B) (t : AskedRun) (nu
 -- how a call ends leaves what the claim says
 pub headline : {B : Type 0} {sink : OfSink} {devices : OfDevices B} (files : ToldFiles) (asked : Option Asked) (number : ℕ) (one : OneAnswer) (ending : Ending) → number ≡ ending_number ending
     → Concludes sink devices (lead_of asked) (MayAnswer files asked) ending → Headline files sink devices asked number
-headline {B} {sink} {devices} files asked number one ending n s = λ t ask fine had e. (
+headline {B} {sink} {devices} files asked number one ending n s = λ t ask fine. (
     let answer = asked-answer one files fine.0 asked t ask in
-    ended sink devices t number had e (MayAnswer files asked) ending n (subst (λ lead. CommandEnds sink devices lead (MayAnswer files asked) ending) (sym answer.0) s.ends) s.cut fine.1 answer.1)
+    ended sink devices t number (MayAnswer files asked) ending n (subst (λ lead. CommandEnds sink devices lead (MayAnswer files asked) ending) (sym answer.0) s.ends) s.cut fine.1 answer.1)

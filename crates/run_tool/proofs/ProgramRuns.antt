@@ -1,7 +1,7 @@
 -- Images of programs that were run.
 use Rattle.std.proofs.Common.{◌≡◌, ℕ, ◌≤◌, Bool, true, false, List, [], ◌∷◌, ◌++◌, refl, sym, ap, subst, ◌∙◌, arith, inr, append_assoc}
 use Rattle.std.proofs.lemmas.List.{append-nil}
-use Rattle.std.specs.Prelude.{Option, Some, None, Result, Ok, Err, if◌then◌else◌}
+use Rattle.std.specs.Prelude.{Option, Some, None, Result, Ok, Err}
 use Rattle.sts_base.specs.Faults.{Rose}
 use Rattle.sts_base.specs.Prefix.{IsPrefix}
 use Rattle.tool_io.specs.Putting.{Took, Puts}
@@ -10,13 +10,13 @@ use Rattle.tool_io.proofs.Laws.{took-then, rose-before}
 use Rattle.board_world.specs.Observations.{ByteList, End as RunEnd, Quietly, By_script, Panicked, Faulted}
 use Rattle.board_world.specs.Transcript.{lines, closing_line, stats_line}
 use Rattle.board_world.specs.Board.{Board}
-use Rattle.board_world.specs.Invariants.{SoundEnd}
+use Rattle.board_world.specs.Implements.{EndsByNoFault}
 use Rattle.board_outside.specs.Moves.{Move, Seen, Unplugged, HasMet}
 use Rattle.board_outside.specs.Cuts.{text_due}
 use Rattle.hex_image.specs.Laws.{IsImage}
 use Rattle.hex_image.specs.Writing.{hextext}
 use Rattle.sts_syntax.specs.TypedTrees.{TypedProgram}
-use Rattle.sts_implements.specs.Images.{ImageImplements, LooksLike}
+use Rattle.sts_implements.specs.Images.{ImageImplements}
 use Rattle.event_script.specs.declared.script.Script.{Script as ReadScript}
 use Rattle.board_run.specs.declared.board.Stats.{Stats}
 use Rattle.board_run.specs.declared.end.End.{End}
@@ -53,17 +53,6 @@ module _ (P : TypedProgram) (texts : List ByteList) (image : List ℕ) (is_image
   abbrev answer_on : Board → ℕ → List Move → Answer
   answer_on b executed moves = runs (run_status b.end) moves (closing_line b.clock b.end ++ asked_behind stats with_image b executed image)
 
-  abbrev answer_by : ℕ → List Move → Option RunEnd → ℕ → ℕ → ℕ → ℕ → ℕ → Answer
-  answer_by executed moves end clock spawned blocked words most =
-      runs (run_status end) moves
-      (closing_line clock end ++ (if stats then stats_line spawned blocked words most ++ (if with_image then instructions_line executed ++ hextext image else []) else []))
-
-  same-answer : (c b : Board) (executed : ℕ) (moves : List Move) → LooksLike c b → answer_on b executed moves ≡ answer_on c executed moves
-  same-answer c b executed moves l =
-      ap (λ x. answer_by executed moves x b.clock b.spawned b.blocked b.words b.most) (sym l.end) ∙ ap (λ x. answer_by executed moves c.end x b.spawned b.blocked b.words b.most) (sym l.clock)
-      ∙ ap (λ x. answer_by executed moves c.end c.clock x b.blocked b.words b.most) (sym l.spawned) ∙ ap (λ x. answer_by executed moves c.end c.clock c.spawned x b.words b.most) (sym l.blocked)
-      ∙ ap (λ x. answer_by executed moves c.end c.clock c.spawned c.blocked x b.most) (sym l.words) ∙ ap (λ x. answer_by executed moves c.end c.clock c.spawned c.blocked c.words x) (sym l.most)
-
   answers : (free : List ℕ) (executed : ℕ) (moves : List Move) → IsExecuted (world_after image script free) budget executed → HasMet moves (world_after image script free executed).board
       → RunsProgram P texts script budget stats with_image (answer_on (world_after image script free executed).board executed moves)
   answers free executed moves e met =
@@ -77,8 +66,8 @@ module _ (P : TypedProgram) (texts : List ByteList) (image : List ℕ) (is_image
         steps = s.0;
         reaches = s.1;
         moves = moves;
-        met = record { seen = s.1.alike.seen ∙ met.seen; unplugged = s.1.alike.unplugged ∙ met.unplugged };
-        is = same-answer (source_after P texts script s.0).board (world_after image script free executed).board executed moves s.1.alike;
+        met = record { seen = ap (λ (b : Board). b.seen) s.1.board ∙ met.seen; unplugged = ap (λ (b : Board). b.unplugged) s.1.board ∙ met.unplugged };
+        is = ap (λ (b : Board). answer_on b executed moves) (sym s.1.board);
       }
 
   -- there is an answer
@@ -187,7 +176,7 @@ module _ (P : TypedProgram) (texts : List ByteList) (image : List ℕ) (is_image
         })
 
     never-faulted : (kind address : ℕ) (s : Stats) → RunsTo account image script budget (outside_of taken faults old places) (outside_of taken faults between places') (Some (Faulted kind address)) s → ⊥
-    never-faulted kind address s r = subst (λ e. SoundEnd (λ kind address. ⊥) e) r.ended (faultless P texts image implements script r.free r.executed)
+    never-faulted kind address s r = subst (λ e. EndsByNoFault e) r.ended (faultless P texts image implements script r.free r.executed)
 
     -- what a call that ran the image answered, with what is asked for behind it
     pub finished : (end : End) (s : Stats) (hex : List ℕ) (ending : Ending) → (with_image ≡ true → hex ≡ hextext image)

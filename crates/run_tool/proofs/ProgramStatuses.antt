@@ -4,7 +4,8 @@ use Rattle.std.specs.Prelude.{Option, Some, None}
 use Rattle.sts_base.specs.declared.refused.Code.{Code}
 use Rattle.sts_base.specs.declared.tables.Tables.{Tables}
 use Rattle.board_world.specs.Observations.{ByteList, End, Quietly, By_script, Panicked, Faulted}
-use Rattle.board_world.specs.Invariants.{SoundEnd}
+use Rattle.board_world.specs.Board.{Board}
+use Rattle.board_world.specs.Implements.{EndsByNoFault}
 use Rattle.sts_syntax.specs.TypedTrees.{TypedProgram}
 use Rattle.event_script.specs.declared.script.Script.{Script}
 use Rattle.sts_whole.specs.Accepting.{Accepts, IsRefusedFor}
@@ -25,7 +26,7 @@ use Rattle.run_tool.specs.Runs.{IsProgramStatus}
 abbrev number_of : Answer → ℕ
 number_of answer = status_number (status_of answer)
 
-pub run-number : (end : Option End) (number : ℕ) → SoundEnd (λ kind address. ⊥) end → number ≡ status_number (run_status end) → IsProgramStatus number
+pub run-number : (end : Option End) (number : ℕ) → EndsByNoFault end → number ≡ status_number (run_status end) → IsProgramStatus number
 run-number None number s e = inr (inr e)
 run-number (Some Quietly) number s e = inl e
 run-number (Some By_script) number s e = inl e
@@ -36,7 +37,7 @@ run-number (Some (Faulted kind address)) number s e = absurd s
 pub program-number : (P : TypedProgram) (texts : List ByteList) (script : Script) (budget : ℕ) (stats image : Bool) (answer : Answer) (number : ℕ) → RunsProgram P texts script budget stats image answer
     → number ≡ number_of answer → IsProgramStatus number
 program-number P texts script budget stats image answer number r e =
-    run-number _ number (subst (λ (o : Option End). SoundEnd (λ kind address. ⊥) o) (sym r.reaches.alike.end) (faultless P texts r.image r.implements script r.free r.executed)) (e ∙ ap number_of r.is)
+    run-number _ number (subst (λ (b : Board). EndsByNoFault b.end) (sym r.reaches.board) (faultless P texts r.image r.implements script r.free r.executed)) (e ∙ ap number_of r.is)
 
 module _ (one : OneAnswer) (text : List ℕ) (answers : TypedProgram → List ByteList → Answer → Type 0) (answer : Answer) where
   -- what is accepted isn't refused

@@ -63,7 +63,7 @@ module _ (one : OneAnswer) (told : Telling) (name script_name arrivals_name : Li
       over-these answer (file-told (AnswersArrivals (λ list. RunsProgramAt P tables.texts read list budget)) files arrivals_name n.arrivals.0 answer n.arrivals.1 n.arrivals.2.0 never on_it)
 
   module _ {B : Type 0} (sink : OfSink) (devices : OfDevices B) where
-    writes : (answer : Answer) (number : ℕ) → RunsProgramAt P tables.texts read come budget answer → Took sink.had sink.has (output_of answer) → Leaves devices answer → number ≡ status_number (status_of answer)
+    writes : (answer : Answer) (number : ℕ) → RunsProgramAt P tables.texts read come budget answer → Took sink.taken_before sink.taken_after (output_of answer) → Leaves devices answer → number ≡ status_number (status_of answer)
         → WritesAt sink devices P tables.texts read come budget number
     writes answer number r took leaves e =
         let b : Board = (source_at P tables.texts read r.meets.places r.meets.steps).board in
@@ -80,7 +80,7 @@ module _ (one : OneAnswer) (told : Telling) (name script_name arrivals_name : Li
             at_least = r.meets.reaches.at_least;
             met = r.meets.met;
           };
-          written = subst (λ os. Took sink.had sink.has (lines os ++ closing_line b.clock b.end)) (sym r.meets.met.seen) (subst (λ a. Took sink.had sink.has (output_of a)) r.is took);
+          written = subst (λ os. Took sink.taken_before sink.taken_after (lines os ++ closing_line b.clock b.end)) (sym r.meets.met.seen) (subst (λ a. Took sink.taken_before sink.taken_after (output_of a)) r.is took);
           met = subst (λ a. Leaves devices a) r.is leaves;
           status = status;
           ended = run-number b.end number r.meets.faultless status;
@@ -88,8 +88,8 @@ module _ (one : OneAnswer) (told : Telling) (name script_name arrivals_name : Li
 
     by-ending : (rose : Type 0) (ending : Ending) (number : ℕ) → number ≡ ending_number ending
         → CommandEnds sink devices [] (MayAnswer (record { told = told; rose = rose }) (Some (run_at name script_name arrivals_name budget))) ending
-        → (ending ≡ Cut → Rose sink.failed sink.fails) → ¬ rose → ¬ Rose sink.failed sink.fails
-        → ((number ≡ 30) × Took sink.had sink.has [] × (devices.behind ≡ devices.before)) ⊎ WritesAt sink devices P tables.texts read come budget number
+        → (ending ≡ Cut → Rose sink.faults_before sink.faults_after) → ¬ rose → ¬ Rose sink.faults_before sink.faults_after
+        → ((number ≡ 30) × Took sink.taken_before sink.taken_after [] × (devices.after ≡ devices.before)) ⊎ WritesAt sink devices P tables.texts read come budget number
     by-ending rose (Gave given) number e s cut quiet calm =
         inr (writes s.0 number (due s.0 (onwards (record { told = told; rose = rose }) (unfailing told) (Some (run_at name script_name arrivals_name budget)) s.0 (λ file. refl, quiet) s.1)) s.3 s.4 (e ∙ ap status_number s.2))
     by-ending rose Cut number e s cut quiet calm = absurd (calm (cut refl))

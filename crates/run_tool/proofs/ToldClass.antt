@@ -91,22 +91,22 @@ module _ (one : OneAnswer) (told : Telling) (name : List ℕ) (budget : ℕ) (fi
   module _ {B : Type 0} (sink : OfSink) (devices : OfDevices B) where
     -- what a call comes to that gave this answer
     abbrev Comes : ℕ → Type 0
-    Comes number = (devices.behind ≡ devices.before) × (((number ≡ 30) × Took sink.had sink.has [])
-        ⊎ ((text : ByteList) × Took sink.had sink.has text × (WritesWhole (class_of_sources file boards) budget text number ⊎ WritesCut (class_of_sources file boards) budget text number)))
+    Comes number = (devices.after ≡ devices.before) × (((number ≡ 30) × Took sink.taken_before sink.taken_after [])
+        ⊎ ((text : ByteList) × Took sink.taken_before sink.taken_after text × (WritesWhole (class_of_sources file boards) budget text number ⊎ WritesCut (class_of_sources file boards) budget text number)))
 
-    writes : (answer : Answer) (number : ℕ) → RunsClass (class_of_sources file boards) budget answer → Took sink.had sink.has (output_of answer) → Leaves devices answer → number ≡ status_number (status_of answer)
+    writes : (answer : Answer) (number : ℕ) → RunsClass (class_of_sources file boards) budget answer → Took sink.taken_before sink.taken_after (output_of answer) → Leaves devices answer → number ≡ status_number (status_of answer)
         → Comes number
     writes answer number (inl r) took leaves e = (
       subst (λ a. Leaves devices a) r.is leaves,
-      inr (r.text, subst (λ a. Took sink.had sink.has (output_of a)) r.is took, inl (record { has = r.has; status = e ∙ (ap (λ a. status_number (status_of a)) r.is ∙ status-by-number _) })),
+      inr (r.text, subst (λ a. Took sink.taken_before sink.taken_after (output_of a)) r.is took, inl (record { has = r.has; status = e ∙ (ap (λ a. status_number (status_of a)) r.is ∙ status-by-number _) })),
     )
     writes answer number (inr r) took leaves e = (
       subst (λ a. Leaves devices a) r.is leaves,
-      inr (r.text, subst (λ a. Took sink.had sink.has (output_of a)) r.is took, inr (record { has = r.has; status = e ∙ ap (λ a. status_number (status_of a)) r.is })),
+      inr (r.text, subst (λ a. Took sink.taken_before sink.taken_after (output_of a)) r.is took, inr (record { has = r.has; status = e ∙ ap (λ a. status_number (status_of a)) r.is })),
     )
 
     by-ending : (rose : Type 0) (ending : Ending) (number : ℕ) → number ≡ ending_number ending → CommandEnds sink devices [] (MayAnswer (record { told = told; rose = rose }) (Some (run_class name budget))) ending
-        → (ending ≡ Cut → Rose sink.failed sink.fails) → ¬ rose → ¬ Rose sink.failed sink.fails → Comes number
+        → (ending ≡ Cut → Rose sink.faults_before sink.faults_after) → ¬ rose → ¬ Rose sink.faults_before sink.faults_after → Comes number
     by-ending rose (Gave given) number e s cut quiet calm =
         writes s.0 number (class-due s.0 (onwards (record { told = told; rose = rose }) (unfailing told) (Some (run_class name budget)) s.0 (λ file. refl, quiet) s.1)) s.3 s.4 (e ∙ ap status_number s.2)
     by-ending rose Cut number e s cut quiet calm = absurd (calm (cut refl))

@@ -49,41 +49,46 @@ ending_number (Gave status) = status_number status
 ending_number Cut = 22
 ending_number NoMemory = 30
 
--- Of a sink, before and behind a call: what it had taken, and how often it had failed.
+-- Of a sink, before and after a call: what it had taken, where it tells, and how often it had failed.
 pub record OfSink : Type 0 where
-  pub had : Option (List ℕ)  -- before,
-  pub has : Option (List ℕ)  -- and behind
-  pub failed : ℕ  -- before,
-  pub fails : ℕ  -- and behind
+  pub taken_before : Option (List ℕ)
+  pub taken_after : Option (List ℕ)
+  pub faults_before : ℕ
+  pub faults_after : ℕ
 
 abbrev pub of_sink : {S : Type 0} → (taken : S → Option (List ℕ)) → (faults : S → ℕ) → S → S → OfSink
-of_sink taken faults old new = record { had = taken old; has = taken new; failed = faults old; fails = faults new }
+of_sink taken faults old new = record {
+  taken_before = taken old;
+  taken_after = taken new;
+  faults_before = faults old;
+  faults_after = faults new;
+}
 
--- No count of faults rose, of the folder or of the sink.
-abbrev pub NothingFails : ToldFiles → OfSink → Type 0
-NothingFails files sink = ¬ files.rose × ¬ Rose sink.failed sink.fails
+-- Neither the folder's count of faults rose nor the sink's.
+abbrev pub NeitherFails : ToldFiles → OfSink → Type 0
+NeitherFails files sink = ¬ files.rose × ¬ Rose sink.faults_before sink.faults_after
 
--- Of devices, before and behind a call: which stood in which place; and what is known of each.
+-- Of devices, before and after a call: which stood in which place; and what is known of each.
 pub record OfDevices (B : Type 0) : Type 0 where
   pub account : B → Account
   pub before : List (Option B)
-  pub behind : List (Option B)
+  pub after : List (Option B)
 
 abbrev pub of_devices : {B : Type 0} → (B → Account) → List (Option B) → List (Option B) → OfDevices B
-of_devices account before behind = record { account = account; before = before; behind = behind }
+of_devices account before after = record { account = account; before = before; after = after }
 
 -- The devices are as an answer leaves them.
 abbrev pub Leaves : {B : Type 0} → OfDevices B → Answer → Type 0
-Leaves devices (says status output) = devices.behind ≡ devices.before
-Leaves devices (runs status moves behind) = DevicesAfter devices.account moves devices.before devices.behind
+Leaves devices (says status output) = devices.after ≡ devices.before
+Leaves devices (runs status moves behind) = DevicesAfter devices.account moves devices.before devices.after
 
 -- The sink stopped the output of an answer: in the line that the command begins with, before any device was touched, or behind it.
 abbrev pub IsAnswerCut : {B : Type 0} → OfSink → OfDevices B → (lead : List ℕ) → Answer → Type 0
 IsAnswerCut sink devices lead (says status output) =
-    TookPart sink.had sink.has (lead ++ output) × (devices.behind ≡ devices.before)
+    TookPart sink.taken_before sink.taken_after (lead ++ output) × (devices.after ≡ devices.before)
 IsAnswerCut sink devices lead (runs status moves behind) =
-    (TookPart sink.had sink.has lead × (devices.behind ≡ devices.before))
-    ⊎ Stopped devices.account lead moves behind sink.had sink.has devices.before devices.behind
+    (TookPart sink.taken_before sink.taken_after lead × (devices.after ≡ devices.before))
+    ⊎ Stopped devices.account lead moves behind sink.taken_before sink.taken_after devices.before devices.after
 
 -- A call that begins with this line and may give these answers ended so: one answer was given whole, or was cut short; or memory was wanting, before
 -- anything was written or behind that line.
@@ -91,17 +96,17 @@ abbrev pub CommandEnds : {B : Type 0} → OfSink → OfDevices B
     → (lead : List ℕ) → (may : Answer → Type 0) → Ending → Type 0
 CommandEnds sink devices lead may (Gave status) =
     (answer : Answer) × may answer × (status ≡ status_of answer)
-    × Took sink.had sink.has (lead ++ output_of answer) × Leaves devices answer
+    × Took sink.taken_before sink.taken_after (lead ++ output_of answer) × Leaves devices answer
 CommandEnds sink devices lead may Cut = (answer : Answer) × may answer × IsAnswerCut sink devices lead answer
 CommandEnds sink devices lead may NoMemory =
-    (Took sink.had sink.has [] ⊎ Took sink.had sink.has lead) × (devices.behind ≡ devices.before)
+    (Took sink.taken_before sink.taken_after [] ⊎ Took sink.taken_before sink.taken_after lead) × (devices.after ≡ devices.before)
 
--- It ended so, and was cut short only where the sink's count of faults rose.
+-- It ended so; the sink's count of faults didn't fall, and rose where the answer was cut short.
 pub record Concludes {B : Type 0} (sink : OfSink) (devices : OfDevices B) (lead : List ℕ)
     (may : Answer → Type 0) (ending : Ending) : Type 0 where
   pub ends : CommandEnds sink devices lead may ending
-  pub later : sink.failed ≤ sink.fails
-  pub cut : ending ≡ Cut → Rose sink.failed sink.fails
+  pub later : sink.faults_before ≤ sink.faults_after
+  pub cut : ending ≡ Cut → Rose sink.faults_before sink.faults_after
 
 -- one of these outputs behind the line that the command begins with
 abbrev pub Led : List ℕ → (Answer → Type 0) → Answer → Type 0

@@ -48,7 +48,7 @@ pub record RunsWhole (C : world.Class Activity Heap) (budget : ℕ) (answer : An
   pub has : HasWholeText C budget text
   pub is : answer ≡ says (class_status (boards_now C.until has.runs)) text
 
--- The answer is a class's text that is cut in a board's run, which hasn't ended: it has made no more counted steps than the budget, and one at least for each 512 of it.
+-- The answer is a class's text that is cut in a board's run, which hasn't ended: no board has made more counted steps than the budget, and this one has made one at least for each 512 of it.
 pub record RunsCut (C : world.Class Activity Heap) (budget : ℕ) (answer : Answer) : Type 0 where
   pub text : ByteList
   pub has : HasTextCutWithin C instructions_of_a_step budget text

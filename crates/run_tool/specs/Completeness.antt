@@ -6,7 +6,7 @@ use Rattle.hex_image.specs.Spells.{Spells}
 use Rattle.event_script.specs.declared.script.Script.{Script}
 use Rattle.sts_whole.specs.Accepting.{Accepts}
 use Rattle.sts_words.specs.Orders.{Asked, check_program, build_program, run_program, run_image, run_at, run_class, run_big}
-use Rattle.run_tool.specs.Answers.{OfSink, NothingFails}
+use Rattle.run_tool.specs.Answers.{OfSink, NeitherFails}
 use Rattle.run_tool.specs.Fetches.{ToldFiles, Telling}
 use Rattle.run_tool.specs.Told.{IsToldWithin, IsToldProgram, IsToldScript}
 use Rattle.run_tool.specs.Big.{big_text}
@@ -49,4 +49,4 @@ MayEndWith other number = IsProgramStatus number
 abbrev pub IsComplete : ToldFiles → OfSink → Option Asked → ℕ → Type 0
 IsComplete files sink asked number =
     (order : Asked) → asked ≡ Some order → HoldsFiles files.told order
-    → NothingFails files sink → MayEndWith order number ⊎ (number ≡ 30)
+    → NeitherFails files sink → MayEndWith order number ⊎ (number ≡ 30)

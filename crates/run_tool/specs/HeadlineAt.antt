@@ -15,7 +15,7 @@ use Rattle.arrival_file.specs.World.{world_arrivals}
 use Rattle.arrival_file.specs.declared.arrival.Arrival.{Arrival}
 use Rattle.irq_arrival.specs.SourceRuns.{source_at}
 use Rattle.sts_words.specs.Orders.{Asked, run_at}
-use Rattle.run_tool.specs.Answers.{OfSink, NothingFails, OfDevices, status_number}
+use Rattle.run_tool.specs.Answers.{OfSink, NeitherFails, OfDevices, status_number}
 use Rattle.run_tool.specs.Fetches.{ToldFiles, Telling}
 use Rattle.run_tool.specs.Told.{IsToldWithin, IsToldProgram, IsToldScript}
 use Rattle.run_tool.specs.Runs.{run_status, IsProgramStatus}
@@ -47,8 +47,8 @@ pub record ComesSoFar (P : TypedProgram) (texts : List ByteList) (read : Script)
 pub record WritesAt {B : Type 0} (sink : OfSink) (devices : OfDevices B) (P : TypedProgram) (texts : List ByteList)
     (read : Script) (come : List Arrival) (budget number : ℕ) : Type 0 where
   pub comes : ComesSoFar P texts read come budget
-  pub written : Took sink.had sink.has (transcript_of (source_at P texts read comes.places comes.steps).board)
-  pub met : DevicesAfter devices.account comes.moves devices.before devices.behind
+  pub written : Took sink.taken_before sink.taken_after (transcript_of (source_at P texts read comes.places comes.steps).board)
+  pub met : DevicesAfter devices.account comes.moves devices.before devices.after
   pub status : number ≡ status_number (run_status (source_at P texts read comes.places comes.steps).board.end)
   pub ended : IsProgramStatus number
 
@@ -59,6 +59,6 @@ HeadlineAt files sink devices asked number =
     (tables : Tables) (P : TypedProgram) (read : Script) (come : List Arrival)
     → asked ≡ Some (run_at name script_name arrivals_name budget)
     → AreTold files.told name script_name arrivals_name tables P read come
-    → NothingFails files sink
-    → ((number ≡ 30) × Took sink.had sink.has [] × (devices.behind ≡ devices.before))
+    → NeitherFails files sink
+    → ((number ≡ 30) × Took sink.taken_before sink.taken_after [] × (devices.after ≡ devices.before))
     ⊎ WritesAt sink devices P tables.texts read come budget number

@@ -13,7 +13,7 @@ use Rattle.class_steps.specs.Texts.{boards_now, HasWholeText}
 use Rattle.class_meaning.specs.Meaning.{HasTextCutWithin}
 use Rattle.class_radio.specs.Outcome.{is_panic, how_many_end}
 use Rattle.sts_words.specs.Orders.{Asked, run_class}
-use Rattle.run_tool.specs.Answers.{OfSink, NothingFails, OfDevices}
+use Rattle.run_tool.specs.Answers.{OfSink, NeitherFails, OfDevices}
 use Rattle.run_tool.specs.Fetches.{ToldFiles, Telling}
 use Rattle.run_tool.specs.Told.{IsToldWithin, IsToldProgram, IsToldScript}
 use Rattle.run_tool.specs.ClassBoards.{BoardSource}
@@ -35,8 +35,8 @@ pub record WritesWhole (C : Class Activity Heap) (budget : ℕ) (text : ByteList
   pub has : HasWholeText C budget text
   pub status : number ≡ (if how_many_end is_panic (boards_now C.until has.runs) == 0 then 0 else 3)
 
--- Second. A board's source hasn't ended after some counted steps, no more than the budget, and one at least for each 512 of it. What was written is what all boards did before the moment to which these steps come,
--- what those of lower numbers did at it, what this one did at it in these steps, and the line of its budget. The status is 4.
+-- Second. Each board's source has made some counted steps, no more than the budget. One hasn't ended within its own, which are one at least for each 512 of the budget. What was written is what all boards did
+-- before the moment to which these steps come, what those of lower numbers did at it, what this one did at it in these steps, and the line of its budget. The status is 4.
 pub record WritesCut (C : Class Activity Heap) (budget : ℕ) (text : ByteList) (number : ℕ) : Type 0 where
   pub has : HasTextCutWithin C 512 budget text
   pub status : number ≡ 4
@@ -47,9 +47,9 @@ abbrev pub HeadlineClass : {B : Type 0} → ToldFiles → OfSink → OfDevices B
 HeadlineClass files sink devices asked number =
     (name : List ℕ) (budget : ℕ) (file : ClassFile) (boards : List BoardSource)
     → asked ≡ Some (run_class name budget) → IsToldClass files.told name file boards
-    → NothingFails files sink
-    → (devices.behind ≡ devices.before)
-    × (((number ≡ 30) × Took sink.had sink.has [])
-    ⊎ ((text : ByteList) × Took sink.had sink.has text
+    → NeitherFails files sink
+    → (devices.after ≡ devices.before)
+    × (((number ≡ 30) × Took sink.taken_before sink.taken_after [])
+    ⊎ ((text : ByteList) × Took sink.taken_before sink.taken_after text
     × (WritesWhole (class_of_sources file boards) budget text number
     ⊎ WritesCut (class_of_sources file boards) budget text number)))

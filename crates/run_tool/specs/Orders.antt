@@ -2,7 +2,7 @@
 use Rattle.std.specs.Prelude.{◌≡◌, ◌⊎◌, ℕ, false, List, [], codes, Option, Some, None, IsSome}
 use Rattle.run_tool.specs.declared.ending.Status.TheVariants.{Usage}
 use Rattle.sts_words.specs.Orders.{Asked, check_program, build_program, run_program, run_image, run_at, run_class, run_big}
-use Rattle.run_tool.specs.Answers.{Answer, OfSink, NothingFails, says, status_of, status_number}
+use Rattle.run_tool.specs.Answers.{Answer, OfSink, NeitherFails, says, status_of, status_number}
 use Rattle.run_tool.specs.Fetches.{ToldFiles, unfailing}
 use Rattle.run_tool.specs.Files.{AnswersFile}
 use Rattle.run_tool.specs.Big.{big_line, big_text}
@@ -40,7 +40,7 @@ IsStatusOf may number = (answer : Answer) × may answer × (number ≡ status_nu
 -- Where no count of faults rises the status is that of an answer that is due where nothing fails, but for want of memory.
 abbrev pub CompletesCommand : ToldFiles → OfSink → Option Asked → ℕ → Type 0
 CompletesCommand files sink asked number =
-    NothingFails files sink → IsStatusOf (MayAnswer (unfailing files.told) asked) number ⊎ (number ≡ 30)
+    NeitherFails files sink → IsStatusOf (MayAnswer (unfailing files.told) asked) number ⊎ (number ≡ 30)
 
 -- Words ask to check, build or run a program, or the one of `big`, or those of a class;
 abbrev pub IsOfProgram : Asked → Type 0

@@ -8,10 +8,11 @@ use Rattle.sts_whole.specs.Accepting.{Accepts}
 use Rattle.run_tool.specs.Fetches.{Telling, limit}
 use Rattle.run_tool.specs.Scripts.{default_script}
 
--- There is a file of this name with such bytes; within the limit of files.
+-- there is a file of this name with such bytes
 abbrev pub IsTold : Telling → List ℕ → (List ℕ → Type 0) → Type 0
 IsTold told name Such = (bytes : List ℕ) × (told name ≡ Some (Some bytes)) × Such bytes
 
+-- and they are within the limit of files
 abbrev pub IsToldWithin : Telling → List ℕ → (List ℕ → Type 0) → Type 0
 IsToldWithin told name Such = IsTold told name (λ bytes. (length bytes ≤ limit) × Such bytes)
 

@@ -135,7 +135,7 @@ fn perform<F: Folder, K: Sink, D: Device>(
 /// budget is 50000000. The program or the image is read, and a program built, before the script is fetched, and that is read before arrivals are. Of a class's boards each is read so before the next one's program is
 /// fetched.
 ///
-/// Answers the status:
+/// Answers the status; "exactly" and "surely" hold where each file was fetched, the sink took all, and there was memory:
 ///
 /// - 0 where the command was done and the whole output was taken; of a run, where it ended quiet or by the script; of a class, where each of its runs did;
 /// - 2, `usage`, exactly where the words aren't taken; nothing is asked of the folder then;

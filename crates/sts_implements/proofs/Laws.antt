@@ -1,7 +1,7 @@
 -- The laws that proofs of other crates cite.
 
 -- runs in which nothing arrives
-pub use Rattle.sts_implements.proofs.Plain.{looks_like, plainly, plain_faultless}
+pub use Rattle.sts_implements.proofs.Plain.{plainly, plain_faultless}
 -- outcomes that agree, and the turns that go on from them
 pub use Rattle.sts_implements.proofs.Agreeing.{after_matches, agree_then, agree_same}
 -- each operation, over the source's heap and over what lowered code has of it

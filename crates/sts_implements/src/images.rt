@@ -3,7 +3,7 @@
 ghost use Rattle.std.specs.Prelude.{◌≡◌, ℕ, ◌*◌, true, List};
 ghost use Rattle.board_world.specs.Observations.{ByteList};
 ghost use Rattle.board_world.specs.Board.{Entry, over};
-ghost use Rattle.board_world.specs.Invariants.{SoundEnd};
+ghost use Rattle.board_world.specs.Implements.{EndsByNoFault};
 ghost use Rattle.sts_syntax.specs.TypedTrees.{TypedProgram};
 ghost use Rattle.sts_meaning.specs.Steps.{source_run};
 ghost use Rattle.bank_model.specs.BoardMachine.{bank_run};
@@ -17,7 +17,7 @@ pub fn images_do_what_programs_do()
         → (k : ℕ) × IsAfter P texts image until script free m k }
     ensures no_fault { (P : TypedProgram) (texts : List ByteList) (image : List ℕ) → ImageImplements P texts image
         → (until : ℕ) (script : List Entry) (free : List ℕ) (m : ℕ)
-        → SoundEnd (λ kind address. ⊥) (bank_run image until script free m).board.end }
+        → EndsByNoFault (bank_run image until script free m).board.end }
     ensures ends { (P : TypedProgram) (texts : List ByteList) (image : List ℕ) → ImageImplements P texts image
         → (until : ℕ) (script : List Entry) (free : List ℕ) (s : ℕ)
         → over (source_run P texts until script s).board ≡ true

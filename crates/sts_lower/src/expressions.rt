@@ -197,7 +197,7 @@ pub(crate) fn open_value<'a>(
         TypedNode::Choice(test, a, b) => open_choice(stack, frame, test, a, b, site),
         TypedNode::Set(None, x, r) => open_store(stack, frame, x, r, site),
         TypedNode::Set(Some(op), x, r) => open_compound(stack, frame, *op, x, r, site),
-        TypedNode::Bump { target, by, after } => open_bump(stack, frame, target, *by, *after, site),
+        TypedNode::Bump { target, by, late } => open_bump(stack, frame, target, *by, *late, site),
         TypedNode::Call(callee, args) => open_call(stack, frame, *callee, args, site),
         TypedNode::SuperCall(f, args) => open_super_call(stack, frame, *f, args, site),
         TypedNode::Make(class, args) => open_make(stack, frame, *class, args, site),

@@ -32,8 +32,8 @@ pub(crate) fn size_of(e: &TypedExpr) -> u32
         TypedNode::Set(Some(_), x, r) => {
             reach_size(x) + 1 + size_of(r) + 1 + store_size(target_of(x))
         }
-        TypedNode::Bump { target, after, .. } => {
-            reach_size(target) + bump_size(target_of(target), *after)
+        TypedNode::Bump { target, late, .. } => {
+            reach_size(target) + bump_size(target_of(target), *late)
         }
         TypedNode::Call(callee, args) => {
             own_numbers(*callee) + total_size(args) + call_size(*callee)

@@ -22,7 +22,7 @@ use Rattle.sts_scope.specs.Failures.{Failure}
 use Rattle.type_derive.specs.Accepted.{AreDerived, derivation, refusal, typed, IsAccepted, IsRefused}
 use Rattle.type_derive.specs.Laws.{IsOne}
 use Rattle.typed_laws.specs.LibraryLaws.{LibraryLeavesFirst}
-use Rattle.sts_whole.specs.Accepting.{Accepts, IsRefusedFor, SpellsNoProgram, RefusesProgram}
+use Rattle.sts_whole.specs.Accepting.{Accepts, IsRefusedFor, TokensAreRefused, RefusesProgram}
 use Rattle.sts_whole.specs.Laws.{OneAnswer}
 use Rattle.sts_whole.proofs.LibraryBehind.{AreOne, one_reading}
 
@@ -76,7 +76,7 @@ module _ (reading : OneReading) (leaves : LibraryLeavesFirst) (one : IsOne) (pro
       let e : ◌≡◌ {A = Option Failure} None (Some f) = sym h.2 ∙ (same ∙ r.2) in
       cc
 
-  tokens_refused : (text : List ℕ) (tables : Tables) (P : TypedProgram) (why : Code) (at : ℕ) → Accepts text tables P → SpellsNoProgram text why at → ⊥
+  tokens_refused : (text : List ℕ) (tables : Tables) (P : TypedProgram) (why : Code) (at : ℕ) → Accepts text tables P → TokensAreRefused text why at → ⊥
   tokens_refused text tables P why at h r =
       let same = one_reading leaves text r.tables tables r.library h.library r.tokens h.tokens r.read h.read in
       not_refused (source h.tokens tables) h.program why at h.shallow h.spelled
@@ -122,7 +122,7 @@ module _ (reading : OneReading) (leaves : LibraryLeavesFirst) (one : IsOne) (pro
   failure_same tables library text f g h j =
       same_Some f g (sym h.2 ∙ (ap (λ (kinds : List (Option StaticType)). refusal tables library text kinds) (types_same one tables library text h.0 j.0 h.1 j.1) ∙ j.2))
 
-  both_tokens : (text : List ℕ) (why why' : Code) (at at' : ℕ) → SpellsNoProgram text why at → SpellsNoProgram text why' at' → (why ≡ why') × (why ≢ code.Syntax → at ≡ at')
+  both_tokens : (text : List ℕ) (why why' : Code) (at at' : ℕ) → TokensAreRefused text why at → TokensAreRefused text why' at' → (why ≡ why') × (why ≢ code.Syntax → at ≡ at')
   both_tokens text why why' at at' h j =
       let same = one_reading leaves text h.tables j.tables h.library j.library h.tokens j.tokens h.read j.read in
       refusal_same (source j.tokens j.tables) why why' at at'
@@ -130,7 +130,7 @@ module _ (reading : OneReading) (leaves : LibraryLeavesFirst) (one : IsOne) (pro
       (subst (λ (ts : List Token). grammar.RefusesSource (source ts h.tables) why at) same.tokens_same h.refused))
       j.refused
 
-  tokens_program : (text : List ℕ) (why why' : Code) (at at' : ℕ) → SpellsNoProgram text why at → RefusesProgram text why' at' → ⊥
+  tokens_program : (text : List ℕ) (why why' : Code) (at at' : ℕ) → TokensAreRefused text why at → RefusesProgram text why' at' → ⊥
   tokens_program text why why' at at' h j =
       let same = one_reading leaves text h.tables j.tables h.library j.library h.tokens j.tokens h.read j.read in
       not_refused (source j.tokens j.tables) j.program why at j.shallow j.spelled

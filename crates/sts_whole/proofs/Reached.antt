@@ -1,19 +1,19 @@
 -- A run of an image that implements a program reaches the program's source.
 use Rattle.std.proofs.Common.{◌≡◌, ℕ, zero, suc, ◌+◌, ◌*◌, ◌<◌, ◌≤◌, inl, inr, Bool, true, false, List, [], refl, sym, ap, subst, ◌∙◌, arith}
-use Rattle.std.specs.Prelude.{◌⊎◌, Option, is_some}
+use Rattle.std.specs.Prelude.{◌⊎◌}
 use Rattle.std.proofs.lemmas.Bool.{cases_lt}
-use Rattle.board_world.specs.Observations.{ByteList, End}
+use Rattle.board_world.specs.Observations.{ByteList}
 use Rattle.board_world.specs.Board.{over}
 use Rattle.board_world.specs.Activities.{World}
 use Rattle.board_world.proofs.Laws.{PlainlyKept}
-use Rattle.board_world.specs.Invariants.{SoundEnd}
+use Rattle.board_world.specs.Implements.{EndsByNoFault}
 use Rattle.board_outside.specs.Moves.{Move, HasMet}
 use Rattle.board_outside.proofs.Laws.{goes_on_meeting}
 use Rattle.sts_syntax.specs.TypedTrees.{TypedProgram}
 use Rattle.sts_meaning.specs.Steps.{source, source_start}
 use Rattle.bank_model.specs.Fibers.{Fiber, Shared}
-use Rattle.sts_implements.specs.Images.{instructions_of_a_step, ImageImplements, LooksLike}
-use Rattle.sts_implements.proofs.Laws.{looks_like, plainly, plain_faultless}
+use Rattle.sts_implements.specs.Images.{instructions_of_a_step, ImageImplements}
+use Rattle.sts_implements.proofs.Laws.{plainly, plain_faultless}
 use Rattle.event_script.specs.World.{world_entries}
 use Rattle.event_script.specs.declared.script.Script.{Script}
 use Rattle.board_run.specs.Ran.{world_after, IsExecuted}
@@ -43,16 +43,13 @@ module _ (P : TypedProgram) (texts : List ByteList) (image : List ℕ) (implemen
   abbrev kept : (m : ℕ) → PlainlyKept instructions_of_a_step (λ s. (source_after P texts script s).board) (λ n. (world_after image script free n).board) m
   kept m = plainly P texts image implements script.end (world_entries script.entries) free m
 
-  alike : (m : ℕ) → LooksLike (source_after P texts script (kept m).steps).board (world_after image script free m).board
-  alike m = looks_like _ _ (kept m).board
-
-  pub faultless : (n : ℕ) → SoundEnd (λ kind address. ⊥) (world_after image script free n).board.end
+  pub faultless : (n : ℕ) → EndsByNoFault (world_after image script free n).board.end
   faultless n = plain_faultless P texts image implements script.end (world_entries script.entries) free n
 
   -- enough steps are made where the source hasn't ended
   enough : (budget executed n : ℕ) → IsExecuted (world_after image script free) budget executed → instructions_of_a_step * n ≤ budget
       → (is : Bool) → over (world_after image script free executed).board ≡ is → (n ≤ (kept executed).steps) ⊎ (over (source_after P texts script (kept executed).steps).board ≡ true)
-  enough budget executed n e l true is = inr (ap (λ (x : Option End). is_some x) (alike executed).end ∙ is)
+  enough budget executed n e l true is = inr (ap over (kept executed).board ∙ is)
   enough budget executed n e l false is = goes e.done
     where
       goes : (executed ≡ budget) ⊎ (over (world_after image script free executed).board ≡ true) → (n ≤ (kept executed).steps) ⊎ (over (source_after P texts script (kept executed).steps).board ≡ true)
@@ -66,7 +63,7 @@ module _ (P : TypedProgram) (texts : List ByteList) (image : List ℕ) (implemen
     (kept executed).steps,
     record {
       is_executed = e;
-      alike = alike executed;
+      board = (kept executed).board;
       at_most = omega (arith, (kept executed).at_most, e.within);
       at_least = λ n l. enough budget executed n e l (over (world_after image script free executed).board) refl;
     },

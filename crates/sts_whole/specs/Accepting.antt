@@ -41,8 +41,8 @@ pub record Accepts (text : List ℕ) (tables : Tables) (P : TypedProgram) : Type
   pub spelled : IsProgram (source tokens tables) program
   pub accepted : IsAccepted tables library program P
 
--- The tokens of a text spell no program, for this reason at this place.
-pub record SpellsNoProgram (text : List ℕ) (code : Code) (at : ℕ) : Type 0 where
+-- At a token of a text too many brackets are open, and this is the place of the first such one; or its tokens spell no program, and this is the place of some token.
+pub record TokensAreRefused (text : List ℕ) (code : Code) (at : ℕ) : Type 0 where
   pub tables : Tables
   pub library : Program
   pub tokens : List Token
@@ -60,9 +60,9 @@ pub record RefusesProgram (text : List ℕ) (code : Code) (at : ℕ) : Type 0 wh
   pub spelled : IsProgram (source tokens tables) program
   pub refused : IsRefused tables library program (record { code = code; at = at })
 
--- A text is refused for the first of these: it has no tokens; they spell no program; or that has a failure.
+-- A text is refused: it has no tokens; or they are refused; or the program that they spell has a failure.
 abbrev pub IsRefusedFor : List ℕ → Code → ℕ → Type 0
-IsRefusedFor text code at = IsRefusal text code at ⊎ (SpellsNoProgram text code at ⊎ RefusesProgram text code at)
+IsRefusedFor text code at = IsRefusal text code at ⊎ (TokensAreRefused text code at ⊎ RefusesProgram text code at)
 
 -- why a text is refused; want of memory has no cause
 abbrev pub RefusesText : List ℕ → Refused → Type 0

@@ -7,7 +7,7 @@ use Rattle.sts_syntax.specs.TypedTrees.{TypedProgram}
 use Rattle.sts_meaning.specs.Frames.{Activity}
 use Rattle.sts_meaning.specs.Heaps.{Heap}
 use Rattle.sts_meaning.specs.Steps.{source_run}
-use Rattle.sts_implements.specs.Images.{instructions_of_a_step, LooksLike}
+use Rattle.sts_implements.specs.Images.{instructions_of_a_step}
 use Rattle.event_script.specs.World.{world_entries}
 use Rattle.event_script.specs.declared.script.Script.{Script}
 use Rattle.board_outside.specs.Moves.{Move, HasMet}
@@ -17,12 +17,12 @@ use Rattle.board_run.specs.Ran.{world_after, IsExecuted}
 abbrev pub source_after : TypedProgram → List ByteList → Script → ℕ → World Activity Heap
 source_after P texts script steps = source_run P texts script.end (world_entries script.entries) steps
 
--- For these free words the run of an image within a budget looks, after the instructions executed, like its program's source after these counted steps: no more of them than instructions
--- of the budget, and one at least for each 512 of it, where the source hasn't ended.
+-- For these free words the board of an image's run within a budget is, after the instructions executed, that of its program's source after these counted steps: no more of them than
+-- instructions of the budget, and one at least for each 512 of it, where the source hasn't ended.
 pub record ImageReaches (P : TypedProgram) (texts : List ByteList) (image : List ℕ) (script : Script) (budget : ℕ)
     (free : List ℕ) (executed steps : ℕ) : Type 0 where
   pub is_executed : IsExecuted (world_after image script free) budget executed
-  pub alike : LooksLike (source_after P texts script steps).board (world_after image script free executed).board
+  pub board : (source_after P texts script steps).board ≡ (world_after image script free executed).board
   pub at_most : steps ≤ budget
   pub at_least : (n : ℕ) → instructions_of_a_step * n ≤ budget
       → (n ≤ steps) ⊎ (over (source_after P texts script steps).board ≡ true)

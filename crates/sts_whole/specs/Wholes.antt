@@ -60,18 +60,15 @@ library_made l = p.library_made l.tables.now (naming l) l.known.now (numbering_o
 -- one part of the library, and the numbers behind it
 abbrev pub library_item : Plan → ℕ → ℕ → TopLevel → List TypedRoutine
 library_item l d n (Function x r) = function_made l true n (kind_at l.known.now d) r
-library_item l d n (Class at x base base_at members) = []
-library_item l d n (Main a) = []
+library_item l d n _ = []
 
 abbrev pub library_declaration : ℕ → TopLevel → ℕ
 library_declaration d (Function x r) = suc d
-library_declaration d (Class at x base base_at members) = d
-library_declaration d (Main a) = d
+library_declaration d _ = d
 
 abbrev pub library_function : ℕ → TopLevel → ℕ
 library_function n (Function x r) = n + item_routines (Function x r)
-library_function n (Class at x base base_at members) = n
-library_function n (Main a) = n
+library_function n _ = n
 
 -- a global with its first value, by its number, where the main program's names are in scope
 abbrev pub global_made : Plan → b.Site → ℕ → Declaration → Making TypedDeclaration
@@ -112,8 +109,7 @@ initials l = p.initials l.tables.now (naming l) l.known.now (numbering_of l.numb
 -- one member's part of them
 abbrev pub member_initials : Plan → ℕ → ℕ → ℕ → ClassMember → List TypedStatement
 member_initials l c n d (m.Field a) = set_field l c d a (initial_made l c n a).it
-member_initials l c n d (m.Method x r) = []
-member_initials l c n d (m.Constructor r) = []
+member_initials l c n d _ = []
 
 -- those of a class
 abbrev pub initials_of : Plan → ClassParts → List TypedStatement

@@ -1,7 +1,7 @@
 //! How far a program comes while its image runs.
 ghost use Rattle.std.specs.Prelude.{ℕ, List};
 ghost use Rattle.board_world.specs.Observations.{ByteList};
-ghost use Rattle.board_world.specs.Invariants.{SoundEnd};
+ghost use Rattle.board_world.specs.Implements.{EndsByNoFault};
 ghost use Rattle.sts_syntax.specs.TypedTrees.{TypedProgram};
 ghost use Rattle.sts_implements.specs.Images.{ImageImplements};
 ghost use Rattle.event_script.specs.declared.script.Script.{Script};
@@ -17,7 +17,7 @@ pub fn runs_reach_their_sources()
         → (steps : ℕ) × ImageReaches P texts image script budget free executed steps }
     ensures faultless { (P : TypedProgram) (texts : List ByteList) (image : List ℕ) → ImageImplements P texts image
         → (script : Script) (free : List ℕ) (n : ℕ)
-        → SoundEnd (λ kind address. ⊥) (world_after image script free n).board.end }
+        → EndsByNoFault (world_after image script free n).board.end }
     ensures exists { (P : TypedProgram) (texts : List ByteList) (image : List ℕ) → ImageImplements P texts image
         → (script : Script) (budget : ℕ) (free : List ℕ)
         → Met P texts image script budget free }

@@ -78,10 +78,8 @@ module _ (params : ℕ) where
         IsFirst first × IsLowerableIfAny test × IsLowerableIfAny step × IsStatement a
     IsStatement (e.ForOf fixed x list a) = LoopFits x × IsLowerable list × IsStatement a
     IsStatement (e.Return value) = IsLowerableIfAny value
-    IsStatement e.Break = Unit {0}
-    IsStatement e.Continue = Unit {0}
     IsStatement (e.Plain a) = IsLowerable a
-    IsStatement e.Empty = Unit {0}
+    IsStatement _ = Unit {0}
 
     pub IsFirst : OptionalTypedStatement → Type 0
     IsFirst e.omitted = Unit {0}

@@ -8,7 +8,7 @@ use Rattle.sts_syntax.specs.declared.typed.Callee.{Callee}
 use Rattle.sts_syntax.specs.declared.typed.Callee.TheVariants as c
 use Rattle.sts_syntax.specs.TypedTrees as e
 use Rattle.sts_syntax.specs.TypedTrees.{TypedTree, TypedTrees, TypedStatement, TypedStatements, OptionalTypedStatement, TypedDeclaration, TypedRoutine, ClassEntry}
-use Rattle.sts_syntax.specs.BoardTable.{BoardAction, Service, Library, Repeats, ServicePlace, Written, Always, row_of, placed}
+use Rattle.sts_syntax.specs.BoardTable.{BoardAction, Service, ServicePlace, Written, Always, row_of, placed}
 use Rattle.sts_syntax.specs.Measures.{how_many, total, argument_sizes, pending_words, outgoing_words}
 use Rattle.sts_syntax.specs.WellTypedPrograms.{is_maker}
 use Rattle.flat_ir.specs.declared.ops.Function.{Function}
@@ -44,8 +44,7 @@ puts (op ∷ ops) = Put op ∷ puts ops
 -- what stands at the places of what is called: nothing but written arguments, except in a service
 abbrev pub places_in : BoardAction → List ServicePlace
 places_in (Service number places) = places
-places_in (Library function) = []
-places_in Repeats = []
+places_in _ = []
 
 abbrev pub places_of : Callee → List ServicePlace
 places_of (c.Board call) = places_in (row_of call).action

@@ -1,6 +1,6 @@
 use Rattle.std.proofs.Common.{inl, [], subst}
 use Rattle.board_world.specs.Activities.{World}
-use Rattle.board_world.specs.Invariants.{SoundEnd}
+use Rattle.board_world.specs.Implements.{EndsByNoFault}
 use Rattle.board_world.proofs.Laws.{never_faults, with_nothing}
 use Rattle.sts_meaning.specs.Heaps.{Heap}
 use Rattle.sts_meaning.specs.Frames.{Activity}
@@ -13,5 +13,5 @@ pub returns-clause-under_arrivals : goal.returns-clause-under_arrivals
 returns-clause-under_arrivals c = (λ P texts good. never_faults (source P texts) (typed P) (source_sound P good texts) P.main (empty P texts) (inl good.main) (empty_is P good texts))
 
 pub returns-clause-alone : goal.returns-clause-alone
-returns-clause-alone c = (λ P texts good until script n. subst (λ (w : World Activity Heap). SoundEnd (λ kind address. ⊥) w.board.end) (with_nothing (source P texts) n (source_start P texts until script))
+returns-clause-alone c = (λ P texts good until script n. subst (λ (w : World Activity Heap). EndsByNoFault w.board.end) (with_nothing (source P texts) n (source_start P texts until script))
     (never_faults (source P texts) (typed P) (source_sound P good texts) P.main (empty P texts) (inl good.main) (empty_is P good texts) until script [] tt n))

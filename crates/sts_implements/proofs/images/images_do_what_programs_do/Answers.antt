@@ -1,12 +1,12 @@
 use Rattle.std.proofs.Common.{◌*◌, arith}
 use Rattle.sts_implements.specs.Images.{instructions_of_a_step}
-use Rattle.sts_implements.proofs.Plain.{looks_like, plainly, plain_faultless}
+use Rattle.sts_implements.proofs.Plain.{plainly, plain_faultless}
 use Rattle.sts_implements.proofs.images.images_do_what_programs_do.Goals as goal
 
 pub returns-clause-follows : goal.returns-clause-follows
 returns-clause-follows c = (λ P texts image h until script free m. (let kept = plainly P texts image h until script free m in (
   kept.steps,
-  record { at_most = kept.at_most; alike = looks_like _ _ kept.board; in_time = kept.at_least },
+  record { at_most = kept.at_most; board = kept.board; in_time = kept.at_least },
 )))
 
 pub returns-clause-no_fault : goal.returns-clause-no_fault

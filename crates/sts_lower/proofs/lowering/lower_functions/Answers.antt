@@ -10,6 +10,16 @@ use Rattle.sts_lower.specs.inner.Fitting.{IsLowerableRoutine}
 use Rattle.sts_lower.proofs.Made.{routines_next}
 use Rattle.sts_lower.proofs.lowering.lower_functions.Goals as goal
 
+pub lower_routine-requires-clause-fits : goal.lower_routine-requires-clause-fits
+lower_routine-requires-clause-fits c =
+    let items = c.as_slice-body-items.result.now in
+    let i = c.loop-body.body-index in
+    let body = c.body-item.result in
+    let lt : i < length items = omega arith in
+    let P : List TypedBody → Type 0 = λ all. AllByRecursion IsLowerableRoutine (typed_routines all) in
+    let Q : TypedBody → Type 0 = λ b. IsLowerableRoutine (typed_routine b) in
+    subst Q (sym c.body-item.is) (subst P (drop_at items i body lt) c.loop-body.invariant.fits).0
+
 pub loop-body-preserved : goal.loop-body-preserved
 loop-body-preserved c =
     let classes = class_entries c.args.classes.now in
