@@ -13,4 +13,4 @@ pub use Rattle.arena_values.proofs.Pushing.{pushes_as}
 -- the words of operators and conditions
 pub use Rattle.arena_values.proofs.Comparing.{Tells, words_tell, words_equal, words_unequal, words_below}
 pub use Rattle.arena_values.proofs.Equal.{same_words, is_small}
-pub use Rattle.arena_values.proofs.Operating.{Leaves, applied_leaves, negated_leaves, more_leaves, less_leaves, decided_is}
+pub use Rattle.arena_values.proofs.Operating.{Leaves, applied_leaves, applied_before_leaves, more_leaves, less_leaves, decided_is}

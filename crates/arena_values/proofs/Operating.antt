@@ -3,7 +3,7 @@ use Rattle.std.proofs.Common.{◌≡◌, ◌≢◌, ℕ, ◌⊎◌, inl, inr, �
 use Rattle.std.specs.Prelude.{ℤ, pos, negsuc, ◌+ℤ◌, int_lt, int_le}
 use Rattle.std.specs.Ordering.{int_eq}
 use Rattle.thumb_code.specs.Arithmetic.{bit_of}
-use Rattle.sts_meaning.specs.Values.{Value, Whole, Object, Text, Code, Outcome, Gives, Breaks, Stuck, then_gives, there, whole, to_int32, truth, same, arithmetic, order, either_value, of_numbers, applied, prefixed, negated, decided}
+use Rattle.sts_meaning.specs.Values.{Value, Whole, Object, Text, Code, Outcome, Gives, Breaks, Stuck, then_gives, there, whole, to_int32, truth, same, arithmetic, order, either_value, of_numbers, applied, prefixed, applied_before, decided}
 use Rattle.arena_values.specs.Words.{Is, AreWords}
 use Rattle.arena_values.specs.Operators.{compared, operated, prefix_word}
 use Rattle.arena_values.proofs.Comparing.{words_tell, words_equal, words_unequal}
@@ -175,11 +175,11 @@ module _ (IsText IsCode : ℕ → ℕ → Type 0) (words : AreWords IsText IsCod
       subst (λ (o : Option Value). Leaves (there o) (prefix_word op v)) (sym (negative_of op n1 n2 n3 n4 x)) tt)
       (tested op 4))) (tested op 3))) (tested op 2))) (tested op 1))
 
-  pub negated_leaves : (op : ℕ) (a : Value) (v : ℕ) → Means a v → op ≢ 5 → op ≢ 6 → Leaves (negated op a) (prefix_word op v)
-  negated_leaves op (Whole x) v i n5 n6 = prefixes op x v i n5 n6
-  negated_leaves op (Object m) v i n5 n6 = tt
-  negated_leaves op (Text m) v i n5 n6 = tt
-  negated_leaves op (Code m) v i n5 n6 = tt
+  pub applied_before_leaves : (op : ℕ) (a : Value) (v : ℕ) → Means a v → op ≢ 5 → op ≢ 6 → Leaves (applied_before op a) (prefix_word op v)
+  applied_before_leaves op (Whole x) v i n5 n6 = prefixes op x v i n5 n6
+  applied_before_leaves op (Object m) v i n5 n6 = tt
+  applied_before_leaves op (Text m) v i n5 n6 = tt
+  applied_before_leaves op (Code m) v i n5 n6 = tt
 
   -- one more, and one less
   pub more_leaves : (a : Value) (v : ℕ) → Means a v → Leaves (then_gives (whole a) (λ x. Gives (Whole (to_int32 (x +ℤ pos 1))))) (prefix_word 5 v)

@@ -7,11 +7,21 @@ use Rattle.thumb_code.specs.Forms.{Effect, Access, Goes, word_accesses}
 
 -- What stands there goes into a low register, through f.
 abbrev pub load_from : ℕ → Registers → ℕ → (ℕ → ℕ) → Access → Effect
-load_from next s rt f a = record { sp = s.sp; loads = a ∷ []; stores = []; after = λ ws. Goes (record s { r = slice_set s.r rt (f (slice_index ws 0)); pc = next }) }
+load_from next s rt f a = record {
+  sp = s.sp;
+  loads = a ∷ [];
+  stores = [];
+  after = λ ws. Goes (record s { r = slice_set s.r rt (f (slice_index ws 0)); pc = next });
+}
 
 -- The low bytes of a low register go there.
 abbrev pub store_to : ℕ → Registers → ℕ → Access → Effect
-store_to next s rt a = record { sp = s.sp; loads = []; stores = (a, low s rt % 2 ^ (a.bytes * 8)) ∷ []; after = λ _. Goes (record s { pc = next }) }
+store_to next s rt a = record {
+  sp = s.sp;
+  loads = [];
+  stores = (a, low s rt % 2 ^ (a.bytes * 8)) ∷ [];
+  after = λ _. Goes (record s { pc = next });
+}
 
 -- The registers with the words from an address on loaded into these, and the memory behind the loads.
 abbrev pub loaded : {S : Type 0} → Memory S → List ℕ → S → ℕ → List ℕ → List ℕ × S

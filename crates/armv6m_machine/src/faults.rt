@@ -9,11 +9,11 @@ pub enum Fault {
     Undefined,
     /// The address of a word or a halfword is no multiple of its size.
     Unaligned,
-    /// The address is outside the map, or a store is to flash.
+    /// An access is outside the map, a store is to flash, or a halfword of an instruction is outside flash.
     OutOfMap,
-    /// A branch's target has bit 0 clear.
+    /// BX, BLX or POP goes to an address with bit 0 clear, a service is given such a code address, or PC is odd.
     NotThumb,
-    /// SP would be below the stack region or above the base.
+    /// SP would be below the stack region or above the base, or the base is none.
     StackRange,
     /// A store in the stack region is at or above the base.
     AboveBase,

@@ -4,7 +4,7 @@ use Rattle.std.specs.Option.{option_map, MatchOption}
 use Rattle.sts_base.specs.Places.{IsPlace}
 use Rattle.around_place.specs.declared.explaining.Explanation.{Explanation}
 use Rattle.around_place.specs.declared.row.Inside.{Inside}
-use Rattle.around_place.specs.declared.row.Inside.TheVariants.{Anything, Bracket, Unclosed, Nothing}
+use Rattle.around_place.specs.declared.row.Inside.TheVariants.{Unclosed}
 use Rattle.around_place.specs.declared.row.Row.{Row}
 use Rattle.around_place.specs.Brackets.{innermost_bracket}
 use Rattle.around_place.specs.Rows.{Surroundings, IsFirstOf, first_byte}
@@ -25,10 +25,8 @@ IsBracketPlace text at (Some rest) opened =
 
 -- a row that speaks of the bracket tells its place, and another tells none
 abbrev pub opened_as : Inside → Option (ℕ × ℕ) → Option (ℕ × ℕ)
-opened_as Anything place = None
-opened_as (Bracket byte) place = None
 opened_as (Unclosed byte) place = place
-opened_as Nothing place = None
+opened_as _ place = None
 
 -- what is told where a row fits: its sentence, its example, and the bracket
 pub record IsSaidBy (row : Row) (text : List ℕ) (at : ℕ) (bracket : Option (List ℕ)) (said : Explanation) : Type 0 where

@@ -10,8 +10,8 @@ pub record Fiber : Type 0 where
   pub base : ℕ
   pub bank : List ℕ
 
--- What all fibers share, besides flash: the words of globals and arena, how many words of the arena are used, and the list of free
--- words.
+-- What all fibers share, besides flash: the words of globals and arena, how many words of the arena are used (the board counts them
+-- too), and the list of free words.
 pub record Shared : Type 0 where
   pub globals : List ℕ
   pub arena : List ℕ

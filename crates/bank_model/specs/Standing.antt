@@ -39,7 +39,11 @@ bank_on m sp =
 
 -- The fiber that runs on the machine, and what all share, where so many words of the arena are used.
 abbrev pub fiber_on : State → Fiber
-fiber_on s = record { registers = s.registers; base = s.memory.base; bank = words_in s.memory.stack s.registers.sp s.memory.base }
+fiber_on s = record {
+  registers = s.registers;
+  base = s.memory.base;
+  bank = words_in s.memory.stack s.registers.sp s.memory.base;
+}
 
 abbrev pub shared_on : ℕ → Ram → List ℕ → Shared
 shared_on used m free = record { globals = m.globals; arena = m.arena; used = used; free = free }

@@ -1,6 +1,7 @@
 -- The steps of the machine with one RAM one after another, and those of a fiber over its bank.
 use Rattle.std.specs.Prelude.{◌≡◌, ℕ, zero, suc, List}
 use Rattle.thumb_code.specs.declared.register_file.Registers.{Registers}
+use Rattle.thumb_code.specs.Memory.{execute_moving}
 use Rattle.thumb_code.specs.Ram.{Ram}
 use Rattle.thumb_code.specs.Step.{Stepped, On, Served, Faulted, fetched, ran}
 use Rattle.thumb_code.specs.Run.{Ran, Still, runs, from_step}
@@ -15,7 +16,7 @@ ram_steps (suc n) s = from_step (λ r t. ram_steps n (record { registers = r; me
 
 -- One step of a fiber over its bank.
 abbrev pub bank_step : Registers → Bank × List ℕ → Stepped (Bank × List ℕ)
-bank_step r m = ran (over_moving bank_memory bank_move r m) r (fetched m.0.flash m.0.base r.pc)
+bank_step r m = ran (execute_moving bank_memory bank_move m r.sp) r (fetched m.0.flash m.0.base r.pc)
 
 -- So many steps of a fiber over its bank.
 abbrev pub bank_steps : ℕ → Registers → Bank × List ℕ → Ran (Bank × List ℕ)

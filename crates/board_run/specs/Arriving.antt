@@ -5,7 +5,7 @@ use Rattle.board_drivers.specs.Buttons.{Since, HasButtons}
 use Rattle.message_bus.specs.BusState.{BusState}
 use Rattle.event_script.specs.World.{world_act, world_entries}
 use Rattle.event_script.specs.declared.script.Act.{Act}
-use Rattle.event_script.specs.declared.script.Act.TheVariants.{Down, Up, Raise, Unplug as Unplugging}
+use Rattle.event_script.specs.declared.script.Act.TheVariants.{Unplug as Unplugging}
 use Rattle.board_ports.specs.Account.{Account}
 use Rattle.board_ports.specs.Plugged.{Plugged}
 use Rattle.board_run.specs.declared.engine.Engine.{Engine}
@@ -14,14 +14,17 @@ use Rattle.board_run.specs.Ports.{PortsMeet}
 
 -- the moves of an act
 abbrev pub unplugs_of : Act → List Move
-unplugs_of (Down button) = []
-unplugs_of (Up button) = []
-unplugs_of (Raise event) = []
 unplugs_of (Unplugging port) = Unplugged port ∷ []
+unplugs_of _ = []
 
 -- a board behind acts that leave this bus, these buttons and these moves
 abbrev pub acted_on : BusState → Since → List Move → Board → Board
-acted_on bus s moves b = record b { queue = bus.queue; a_since = s.a_since; b_since = s.b_since; unplugged = b.unplugged ++ unplugged_of (length b.seen) moves }
+acted_on bus s moves b = record b {
+  queue = bus.queue;
+  a_since = s.a_since;
+  b_since = s.b_since;
+  unplugged = b.unplugged ++ unplugged_of (length b.seen) moves;
+}
 
 -- An act did to the bus, the buttons and the devices what it does to each board that has these.
 pub record Applied {B : Type 0} (account : B → Account) (act : Act) (now : ℕ) (since since' : Since)

@@ -4,7 +4,7 @@ use Rattle.board_world.specs.Kinds.{Turn, Pauses, Waits}
 use Rattle.bank_model.specs.Fibers.{Fiber, Shared}
 use Rattle.fiber_runtime.specs.declared.blocking.Why.{Why}
 use Rattle.fiber_runtime.specs.declared.blocking.Why.TheVariants.{Pause, Wait}
-use Rattle.bank_model.specs.Standing.{words_in}
+use Rattle.bank_model.specs.Standing.{fiber_on}
 use Rattle.fiber_runtime.specs.declared.turning.Turning.{Turning}
 use Rattle.fiber_pool.specs.Kept.{kept_at}
 use Rattle.fiber_queues.specs.Lists.{Leads}
@@ -23,7 +23,11 @@ blocks_for (Wait e) f s = Waits e f s
 -- The running fiber is copied into its record, and so many words more are counted.
 pub record Rests (key : ℕ) (t : Turning) (why : Why) (old new : Engine) : Type 0 where
   pub blocked : Blocked key t why old.clock old.runtime new.runtime
-  pub rest : new ≡ record old { runtime = new.runtime; switch = new.switch; counts = record old.counts { words = old.counts.words + length (words_in old.runtime.machine.memory.stack old.runtime.machine.registers.sp old.runtime.machine.memory.base) } }
+  pub rest : new ≡ record old {
+    runtime = new.runtime;
+    switch = new.switch;
+    counts = record old.counts { words = old.counts.words + length (fiber_on old.runtime.machine).bank };
+  }
 
 -- the switch's count behind the routine's instructions for so many words
 abbrev pub copied_behind : ℕ → Engine → ℕ

@@ -1,7 +1,7 @@
 -- A part of a run, and an act between two parts.
 use Rattle.std.specs.Prelude.{◌≡◌, ℕ, ◌≤◌, ◌⊎◌, List, Option, Some, None, IsSome}
 use Rattle.sts_base.specs.Faults.{Rose}
-use Rattle.board_world.specs.Board.{Act, Down, Up, Raise, Unplug}
+use Rattle.board_world.specs.Board.{Act, Unplug}
 use Rattle.board_world.specs.Activities.{World}
 use Rattle.board_world.specs.Runs.{acts}
 use Rattle.bank_model.specs.Fibers.{Fiber, Shared}
@@ -33,10 +33,8 @@ Parted account most old new (Some answer) =
 
 -- an act that arrives is no unplug
 abbrev pub MayArrive : Act → Type 0
-MayArrive (Down button) = Unit {0}
-MayArrive (Up button) = Unit {0}
-MayArrive (Raise event) = Unit {0}
 MayArrive (Unplug port) = ⊥
+MayArrive _ = Unit {0}
 
 -- The board shows what an act makes of each world that it showed.
 abbrev pub Arrives : Act → BoardState → BoardState → Type 0

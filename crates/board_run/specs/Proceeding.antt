@@ -1,11 +1,11 @@
 -- A board that goes on while the clock stands, over a sink and devices.
 use Rattle.std.specs.Prelude.{◌≡◌, ℕ, ◌+◌, ◌<◌, ◌≤◌, ◌⊎◌, ℤ, List, [], ◌∷◌, ◌++◌, length, nat_lt, if◌then◌else◌, None, IsSome, false}
-use Rattle.board_world.specs.Observations.{ByteList, Observation, Show, Serial, Pin, Radio}
+use Rattle.board_world.specs.Observations.{ByteList, Observation, Radio}
 use Rattle.board_world.specs.Board.{over}
 use Rattle.board_world.specs.Activities.{World}
 use Rattle.bank_model.specs.Fibers.{Fiber, Shared}
 use Rattle.board_outside.specs.declared.output.Output.{Output}
-use Rattle.board_outside.specs.declared.output.Output.TheVariants.{Nothing, Frame, Number, Text, Pin as PinOutput, Radio as RadioOutput}
+use Rattle.board_outside.specs.declared.output.Output.TheVariants.{Nothing}
 use Rattle.board_outside.specs.Moves.{seen_of}
 use Rattle.board_run.specs.declared.engine.Engine.{Engine}
 use Rattle.board_run.specs.declared.board.Board.{Board}
@@ -18,20 +18,14 @@ use Rattle.board_ports.specs.Account.{Account}
 -- the numbers that were sent by radio behind these: as long as there are fewer than 32 they are kept
 abbrev pub first_sent : List ℤ → List Observation → List ℤ
 first_sent numbers [] = numbers
-first_sent numbers (Show at frame ∷ os) = first_sent numbers os
-first_sent numbers (Serial at bytes ∷ os) = first_sent numbers os
-first_sent numbers (Pin at pin level ∷ os) = first_sent numbers os
 first_sent numbers (Radio at number ∷ os) =
     first_sent (if nat_lt (length numbers) 32 then numbers ++ number ∷ [] else numbers) os
+first_sent numbers (_ ∷ os) = first_sent numbers os
 
 -- what is put before the line of what an instruction showed
 abbrev pub lead_before : ByteList → Output → ByteList
 lead_before lead Nothing = []
-lead_before lead (Frame frame) = lead
-lead_before lead (Number number) = lead
-lead_before lead (Text at) = lead
-lead_before lead (PinOutput pin level) = lead
-lead_before lead (RadioOutput number) = lead
+lead_before lead _ = lead
 
 -- The run isn't over, and somebody is ready.
 abbrev pub IsBusy : World Fiber Shared → Type 0

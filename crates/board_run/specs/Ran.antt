@@ -95,8 +95,7 @@ end_told Quiet = Some Quietly
 end_told Script = Some By_script
 end_told (Panic code) = Some (Panicked code)
 end_told (Fault fault address) = Some (Faulted (number_of fault) address)
-end_told Budget = None
-end_told SinkFault = None
+end_told _ = None
 
 -- What a call that ran a board along a course answered: that the sink stopped it, where the count of its faults rose, or how the run ended.
 abbrev pub Ran : {B : Type 0} → (B → Account) → List ℕ → (List ℕ → ℕ → World Fiber Shared) → ℕ → Outside B → OverSink B

@@ -93,7 +93,13 @@ pub record HasMain (machine : Machine) (s : State) : Type 0 where
       ≡ Some (fresh machine.memory.flash (base_of machine.memory.flash) (main_of machine.memory.flash))
   pub others : (other : ℕ) → other ≢ key → get s.pool other ≡ None
   pub live : slab_len s.pool ≡ 1
-  pub rest : s ≡ record { machine = machine; running = None; raisers = []; pool = s.pool; lists = record no_lists { ready = key ∷ [] } }
+  pub rest : s ≡ record {
+    machine = machine;
+    running = None;
+    raisers = [];
+    pool = s.pool;
+    lists = record no_lists { ready = key ∷ [] };
+  }
 
 -- The running fiber gets a record, in which nothing but its event value and listener is kept of it yet.
 abbrev pub adopted : Turning → Kept
@@ -130,7 +136,11 @@ suspended t s = record s { running = None; raisers = raiser_of s.machine t ∷ s
 
 -- The innermost raiser goes on.
 abbrev pub reinstated : Raiser → List Raiser → State → State
-reinstated r rs s = record s { machine = record { registers = r.registers; memory = record s.machine.memory { base = r.base } }; running = Some r.turning; raisers = rs }
+reinstated r rs s = record s {
+  machine = record { registers = r.registers; memory = record s.machine.memory { base = r.base } };
+  running = Some r.turning;
+  raisers = rs;
+}
 
 pub record Reinstated (old new : State) : Type 0 where
   pub first : Raiser

@@ -5,11 +5,9 @@ use Rattle.flat_ir.specs.declared.ops.Op.TheVariants.{Const, Copy, Unary, Binary
 
 -- the temporaries that an op reads
 abbrev pub reads : Op → List ℕ
-reads (Const to value) = []
 reads (Copy to from) = from ∷ []
 reads (Unary to op from) = from ∷ []
 reads (Binary to op left right) = left ∷ right ∷ []
-reads (GlobalGet to slot) = []
 reads (GlobalSet slot from) = from ∷ []
 reads (FieldGet to object field) = object ∷ []
 reads (FieldSet object field from) = object ∷ from ∷ []
@@ -17,16 +15,12 @@ reads (ItemGet to array index) = array ∷ index ∷ []
 reads (ItemSet array index from) = array ∷ index ∷ from ∷ []
 reads (Length to array) = array ∷ []
 reads (Pop to array) = array ∷ []
-reads (TextOf to text) = []
-reads (MakeObject to class) = []
-reads (MakeArray to room) = []
 reads (Call to function args) = args
 reads (CallSlot to slot args) = args
-reads (HandlerOf to function) = []
 reads (Ask to service args) = args
-reads (Jump target) = []
 reads (Branch when target) = when ∷ []
 reads (Return from) = from ∷ []
+reads _ = []
 
 -- the temporary that it writes
 abbrev pub writes : Op → Option ℕ
@@ -35,11 +29,8 @@ writes (Copy to from) = Some to
 writes (Unary to op from) = Some to
 writes (Binary to op left right) = Some to
 writes (GlobalGet to slot) = Some to
-writes (GlobalSet slot from) = None
 writes (FieldGet to object field) = Some to
-writes (FieldSet object field from) = None
 writes (ItemGet to array index) = Some to
-writes (ItemSet array index from) = None
 writes (Length to array) = Some to
 writes (Pop to array) = Some to
 writes (TextOf to text) = Some to
@@ -49,9 +40,7 @@ writes (Call to function args) = Some to
 writes (CallSlot to slot args) = Some to
 writes (HandlerOf to function) = Some to
 writes (Ask to service args) = Some to
-writes (Jump target) = None
-writes (Branch when target) = None
-writes (Return from) = None
+writes _ = None
 
 -- where a jump or a branch may go
 abbrev pub target_of : Op → Option ℕ

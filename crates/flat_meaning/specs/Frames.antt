@@ -1,7 +1,7 @@
 -- Activities of flat code.
 use Rattle.std.specs.Prelude.{ℕ, ◌+◌, List, [], ◌∷◌, Option, Some, None}
 use Rattle.flat_ir.specs.declared.ops.Op.{Op}
-use Rattle.flat_ir.specs.declared.ops.Op.TheVariants.{Const, Copy, Unary, Binary, GlobalGet, GlobalSet, FieldGet, FieldSet, ItemGet, ItemSet, Length, Pop, TextOf, MakeObject, MakeArray, Call, CallSlot, HandlerOf, Ask, Jump, Branch, Return}
+use Rattle.flat_ir.specs.declared.ops.Op.TheVariants.{Call, CallSlot}
 use Rattle.flat_ir.specs.declared.ops.Function.{Function}
 use Rattle.flat_ir.specs.declared.ops.FlatCode.{FlatCode}
 use Rattle.sts_syntax.specs.TypeRules.{entry}
@@ -44,29 +44,9 @@ given to v f = record { function = f.function; place = f.place + 1; temps = with
 
 -- the temporary that waits for a call's value
 abbrev pub result_of : Option Op → Outcome ℕ
-result_of None = Stuck
 result_of (Some (Call to function args)) = Gives to
 result_of (Some (CallSlot to slot args)) = Gives to
-result_of (Some (Const to value)) = Stuck
-result_of (Some (Copy to from)) = Stuck
-result_of (Some (Unary to op from)) = Stuck
-result_of (Some (Binary to op left right)) = Stuck
-result_of (Some (GlobalGet to slot)) = Stuck
-result_of (Some (GlobalSet slot from)) = Stuck
-result_of (Some (FieldGet to object field)) = Stuck
-result_of (Some (FieldSet object field from)) = Stuck
-result_of (Some (ItemGet to array index)) = Stuck
-result_of (Some (ItemSet array index from)) = Stuck
-result_of (Some (Length to array)) = Stuck
-result_of (Some (Pop to array)) = Stuck
-result_of (Some (TextOf to text)) = Stuck
-result_of (Some (MakeObject to class)) = Stuck
-result_of (Some (MakeArray to room)) = Stuck
-result_of (Some (HandlerOf to function)) = Stuck
-result_of (Some (Ask to service args)) = Stuck
-result_of (Some (Jump target)) = Stuck
-result_of (Some (Branch when target)) = Stuck
-result_of (Some (Return from)) = Stuck
+result_of _ = Stuck
 
 module _ (C : FlatCode) where
   abbrev pub words : ℕ → ℕ

@@ -3,17 +3,17 @@ use Rattle.std.specs.Prelude.{◌≡◌, ℕ, zero, suc, pos, negsuc, ◌+ℤ◌
 use Rattle.board_services.specs.declared.numbers.TheConstants.{TIME, EVENT_VALUE, BUTTON, TEXT_GLYPH, NUMBER_GLYPH}
 use Rattle.flat_ir.specs.declared.operators.TheConstants.{INCREMENT, DECREMENT}
 use Rattle.sts_syntax.specs.Types.{ValueType}
-use Rattle.sts_syntax.specs.BoardTable.{BoardAction, Service, Library, Repeats}
+use Rattle.sts_syntax.specs.BoardTable.{BoardAction, Service}
 use Rattle.sts_syntax.specs.Nodes.{is_among}
 use Rattle.sts_meaning.specs.Continuation.{gives_value}
-use Rattle.sts_meaning.specs.Values.{Value, Whole, default, Outcome, Gives, Stuck, then_gives, whole, to_int32, negated}
+use Rattle.sts_meaning.specs.Values.{Value, Whole, default, Outcome, Gives, Stuck, then_gives, whole, to_int32, applied_before}
 
 -- The prefix operators of the source, and those that give one more and one less than a number, through ToInt32.
 abbrev pub prefixed_by : ℕ → Value → Outcome Value
 prefixed_by op v =
     if op == INCREMENT then then_gives (whole v) (λ x. Gives (Whole (to_int32 (x +ℤ pos 1))))
     else if op == DECREMENT then then_gives (whole v) (λ x. Gives (Whole (to_int32 (x +ℤ negsuc 0))))
-    else negated op v
+    else applied_before op v
 
 -- the services that answer with a number; of all others the value is 0
 abbrev pub answering : List ℕ
@@ -25,8 +25,7 @@ answers service = is_among answering service
 -- a call of the board has a value where its service answers
 abbrev pub IsAnswered : BoardAction → ValueType → Type 0
 IsAnswered (Service number places) gives = gives_value gives ≡ answers number
-IsAnswered (Library function) gives = Unit {0}
-IsAnswered Repeats gives = Unit {0}
+IsAnswered _ gives = Unit {0}
 
 -- the default, so many times
 abbrev pub zeros : ℕ → List Value

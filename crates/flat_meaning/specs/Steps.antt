@@ -29,10 +29,8 @@ FlatTurn = Turn FlatActivity FlatHeap
 
 -- with exactly two values
 abbrev pub with_pair : List Value → (Value → Value → FlatTurn) → FlatTurn
-with_pair [] go = stuck
-with_pair (a ∷ []) go = stuck
 with_pair (a ∷ (b ∷ [])) go = go a b
-with_pair (a ∷ (b ∷ (c ∷ rest))) go = stuck
+with_pair _ go = stuck
 
 -- An activity of flat code with these texts.
 module _ (C : FlatCode) (texts : List ByteList) where
@@ -94,7 +92,8 @@ module _ (C : FlatCode) (texts : List ByteList) where
     -- the function in a slot of the first argument's class
     abbrev pub slot_function : ℕ → List Value → Outcome ℕ
     slot_function slot args =
-        then_gives (first args) (λ o. then_gives (object_at h o) (λ c. then_gives (there (entry C.classes c.0)) (λ class. there (entry class.slots slot))))
+        then_gives (first args) (λ o. then_gives (object_at h o)
+        (λ c. then_gives (there (entry C.classes c.0)) (λ class. there (entry class.slots slot))))
 
     -- one op
     abbrev pub act : Op → FlatTurn
@@ -114,7 +113,8 @@ module _ (C : FlatCode) (texts : List ByteList) where
     act (MakeObject to class) = after (there (entry C.classes class)) (λ c. makes to class c.words)
     act (MakeArray to room) = Takes (array_words room) (λ at. (gives to (Object at), with_cell at (Items tt room []) h))
     act (Call to function args) = called h base (f ∷ callers) function (map f.temps args)
-    act (CallSlot to slot args) = after (slot_function slot (map f.temps args)) (λ g. called h base (f ∷ callers) g (map f.temps args))
+    act (CallSlot to slot args) =
+        after (slot_function slot (map f.temps args)) (λ g. called h base (f ∷ callers) g (map f.temps args))
     act (HandlerOf to function) = Goes (gives to (Code function)) h
     act (Ask to service args) = asks to service (map f.temps args)
     act (Jump target) = Goes (goes_to target) h

@@ -3,7 +3,7 @@ use Rattle.std.specs.Prelude.{ℕ, suc, ◌+◌, ◌≡◌, if◌then◌else◌,
 use Rattle.board_world.specs.declared.events.Event.{Event}
 use Rattle.board_world.specs.Waiting.{Hearing, how_many}
 use Rattle.board_world.specs.Activities.{Activity, World, is_of}
-use Rattle.board_world.specs.Kinds.{Question, Raises, Plots, Displays, Writes, Sets, Sends, Time, Value, Pressed}
+use Rattle.board_world.specs.Kinds.{Question, Raises}
 use Rattle.message_bus.specs.ListenerState.{ListenerState, begins_new}
 use Rattle.message_bus.specs.BusState.{BusState, queued, alive_at}
 
@@ -37,11 +37,4 @@ begun make e i (l ∷ ls) =
 -- the queue behind what an activity asks of the board: an event may be raised
 abbrev pub asked_queue : Question → List Event → List Event
 asked_queue (Raises e) q = queued e q
-asked_queue (Plots x y mode) q = q
-asked_queue (Displays f) q = q
-asked_queue (Writes bytes) q = q
-asked_queue (Sets p v) q = q
-asked_queue (Sends n) q = q
-asked_queue Time q = q
-asked_queue Value q = q
-asked_queue (Pressed n) q = q
+asked_queue _ q = q

@@ -62,7 +62,7 @@ gives_value u = true
 -- what a call does, once its arguments are there
 abbrev pub asks : BoardAction → ℕ → Bool → Continuation → Continuation
 asks (Service number places) n answers k = Ask number n answers k
-asks (Library function) n answers k = Impossible
+asks (Library function) n answers k = Impossible  -- such a call is one of a function already, in a typed tree
 asks Repeats n answers k = Repeat k
 
 abbrev pub calls : Callee → ℕ → Continuation → Continuation
@@ -180,6 +180,7 @@ module _ (maker : Bool) where
     runs (e.For first test step a) b c k =
         (let turn = steps step (Again (e.For e.omitted test step a) k) in
         runs_first first b c (tests test (runs a k turn turn) k))
+    -- the item is local i; behind it are the array and the next index
     runs (e.ForOf fixed (Local i) list a) b c k =
         evals list (Store (Local (suc i)) (Drop (Put default (Store (Local (suc (suc i))) (Drop (Each i a k))))))
     runs (e.ForOf fixed x list a) b c k = Impossible

@@ -86,13 +86,6 @@ abbrev pub defaults : List ValueType → List Value
 defaults [] = []
 defaults (u ∷ us) = default ∷ defaults us
 
--- as many arguments as parameters
-abbrev pub as_many : {X : Type 0} → List X → List Value → Outcome (Unit {0})
-as_many [] [] = Gives tt
-as_many [] (v ∷ vs) = Stuck
-as_many (x ∷ xs) [] = Stuck
-as_many (x ∷ xs) (v ∷ vs) = as_many xs vs
-
 -- the first of some values
 abbrev pub first : List Value → Outcome Value
 first [] = Stuck

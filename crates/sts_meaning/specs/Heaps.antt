@@ -6,7 +6,7 @@ use Rattle.sts_syntax.specs.Measures.{wider_room}
 use Rattle.sts_syntax.specs.TypeRules.{entry}
 use Rattle.sts_meaning.specs.Values.{Value, Whole, Object, Outcome, Gives, Breaks, Stuck, then_gives, there, changed, with_entry}
 
--- An object has its class. Of an array's items something may be noted, which nothing reads: their type in the source, nothing in lowered code.
+-- An object has its class. Of an array's items something may be noted, which no step reads: their type in the source, nothing in lowered code.
 pub data CellOf (N : Type 0) : Type 0 where
   Fields : (class : ℕ) (fields : List Value) → CellOf N
   Items : (item : N) (room : ℕ) (items : List Value) → CellOf N
@@ -30,7 +30,7 @@ FlatHeap = HeapOf (Unit {0})
 abbrev pub with_cell : {N : Type 0} → ℕ → CellOf N → HeapOf N → HeapOf N
 with_cell n c h = record h { cells = with_entry n (Some c) h.cells }
 
--- a global is set; one that isn't there is none
+-- a global is set; stuck where it isn't there
 abbrev pub write_global : {N : Type 0} → HeapOf N → ℕ → Value → Outcome (HeapOf N)
 write_global h g v =
     then_gives (there (entry h.globals g)) (λ old. Gives (record h { globals = changed h.globals g v }))
@@ -75,7 +75,7 @@ put_fields o class fields h = with_cell (number_of o) (Fields class fields) h
 abbrev pub put_items : {N : Type 0} → Value → RowOf N → List Value → HeapOf N → HeapOf N
 put_items a r items h = with_cell (number_of a) (Items r.item r.room items) h
 
--- a field past the end is none
+-- a field; stuck past the last one
 abbrev pub read_field : {N : Type 0} → HeapOf N → Value → ℕ → Outcome Value
 read_field h o f = then_gives (object_at h o) (λ c. there (entry c.1 f))
 

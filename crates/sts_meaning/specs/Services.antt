@@ -32,7 +32,7 @@ event source value = record { source = source; value = value }
 abbrev pub listener : ℤ → ℤ → ℕ → ℤ → Listener
 listener source value handler mode = record { source = source; value = value; handler = handler; mode = mode }
 
--- requests of so many arguments; with others there is none
+-- requests of so many arguments; stuck with more or fewer
 abbrev pub with_none : Request → List Value → Outcome Request
 with_none r [] = Gives r
 with_none r (a ∷ rest) = Stuck
@@ -69,7 +69,7 @@ of_listener s v h m =
     then_gives (whole s) (λ s. then_gives (whole v)
     (λ v. then_gives (code h) (λ h. then_gives (whole m) (λ m. Gives (Listen (listener s v h m))))))
 
--- the request of a service; every other number is none
+-- the request of a service; stuck at every other number
 abbrev pub requested : ℕ → List Value → Outcome Request
 requested service args =
     if service == PANIC then with_one (of_one Panic) args

@@ -1,5 +1,5 @@
 -- The step of an activity, and the source of programs as a kind of activity.
-use Rattle.std.specs.Prelude.{ℕ, suc, ◌+◌, ◌-◌, pos, ◌+ℤ◌, Bool, false, if◌then◌else◌, nat_lt, List, [], ◌∷◌, length, Option, Some, None}
+use Rattle.std.specs.Prelude.{ℕ, suc, ◌+◌, ◌-◌, pos, ◌+ℤ◌, Bool, false, if◌then◌else◌, ◌==◌, nat_lt, List, [], ◌∷◌, length, Option, Some, None}
 use Rattle.board_world.specs.declared.requests.Request.TheVariants.{Spawn}
 use Rattle.board_world.specs.Limits.{depth_limit}
 use Rattle.board_world.specs.Panics.{depth_panic}
@@ -15,11 +15,11 @@ use Rattle.sts_syntax.specs.TypedTrees.{TypedStatement, TypedRoutine, TypedProgr
 use Rattle.sts_syntax.specs.Measures.{frame_words, repeating_words, object_words, array_words}
 use Rattle.sts_syntax.specs.TypeRules.{entry}
 use Rattle.sts_syntax.specs.WellTypedPrograms.{is_maker}
-use Rattle.sts_meaning.specs.Values.{Value, Whole, Object, Code, default, Outcome, then_gives, there, applied, negated, bumped, decided, map_of, to_int32}
+use Rattle.sts_meaning.specs.Values.{Value, Whole, Object, default, Outcome, then_gives, there, applied, applied_before, bumped, decided, map_of, to_int32}
 use Rattle.sts_meaning.specs.Heaps.{Fields, Items, Heap, with_cell, object_at, read_field, write_field, read_item, write_item, length_at, pushed, popped, next_item}
-use Rattle.sts_meaning.specs.Services.{requested}
+use Rattle.sts_meaning.specs.Services.{code, requested}
 use Rattle.sts_meaning.specs.Continuation.{Continuation, Put, Get, Store, Drop, Unary, Apply, Choose, Both, Either, Read, Peek, Write, At, PeekAt, SetAt, Bump, BumpField, BumpAt, Measure, Push, Pop, Open, Append, New, Build, Invoke, Send, Ask, Repeat, Again, Each, Leave, Give, Round, Impossible, runs, runs_all, bare}
-use Rattle.sts_meaning.specs.Frames.{Names, Frame, Activity, Starts, Runs, stuck, after, grown, with_latest, with_two, with_three, taken, named, with_local, stored, defaults, as_many, first, answered, text_of, round}
+use Rattle.sts_meaning.specs.Frames.{Names, Frame, Activity, Starts, Runs, stuck, after, grown, with_latest, with_two, with_three, taken, named, with_local, stored, defaults, first, answered, text_of, round}
 
 -- An activity of a program with these texts.
 module _ (P : TypedProgram) (texts : List ByteList) where
@@ -41,10 +41,20 @@ module _ (P : TypedProgram) (texts : List ByteList) where
 
   -- a function's frame as it begins, and that of one that `forever` starts
   abbrev pub entered : ℕ → TypedRoutine → List Value → Frame
-  entered f r args = record { function = f; names = record { params = map_of args; locals = λ i. default }; values = []; todo = body_of f r }
+  entered f r args = record {
+    function = f;
+    names = record { params = map_of args; locals = λ i. default };
+    values = [];
+    todo = body_of f r;
+  }
 
   abbrev pub entered_round : ℕ → Frame
-  entered_round f = record { function = repeating f; names = record { params = λ i. default; locals = λ i. default }; values = []; todo = round f }
+  entered_round f = record {
+    function = repeating f;
+    names = record { params = λ i. default; locals = λ i. default };
+    values = [];
+    todo = round f;
+  }
 
   -- the method in a slot of an object's class
   abbrev pub method : Heap → Value → ℕ → Outcome ℕ
@@ -59,11 +69,11 @@ module _ (P : TypedProgram) (texts : List ByteList) where
         (let deeper = depth + words frame.function in if nat_lt depth_limit deeper then Panics depth_panic
         else Goes (Runs frame waiting base deeper) heap)
 
-    -- a call
+    -- a call, of as many arguments as parameters
     abbrev pub invoked : ℕ → List Value → List Frame → Turn Activity Heap
     invoked f args waiting =
         after (there (entry P.functions f))
-        (λ r. after (as_many r.params args) (λ _. entering (entered f r args) waiting))
+        (λ r. if length r.params == length args then entering (entered f r args) waiting else stuck)
 
     -- the end of a function: its value goes to the frame that waits for it; behind the last one the activity ends
     abbrev pub ended : ℕ → Value → List Frame → Turn Activity Heap
@@ -115,7 +125,7 @@ module _ (P : TypedProgram) (texts : List ByteList) where
     act (Store x k) vs = with_latest vs (λ v rest. after (stored x v names heap) (λ s. Goes (now_with s.0 vs k) s.1))
     act (Drop k) [] = stuck
     act (Drop k) (v ∷ rest) = act k rest
-    act (Unary op k) vs = with_latest vs (λ v rest. after (negated op v) (λ w. Goes (now (w ∷ rest) k) heap))
+    act (Unary op k) vs = with_latest vs (λ v rest. after (applied_before op v) (λ w. Goes (now (w ∷ rest) k) heap))
     act (Apply op k) vs = with_two vs (λ a b rest. after (applied op a b) (λ v. Goes (now (v ∷ rest) k) heap))
     act (Choose so otherwise) vs =
         with_latest vs (λ v rest. after (decided v) (λ b. Goes (now rest (if b then so else otherwise)) heap))
@@ -156,9 +166,8 @@ module _ (P : TypedProgram) (texts : List ByteList) where
         after (then_gives (first x.0) (λ o. method heap o s)) (λ g. invoked heap base depth g x.0 (at x.1 k ∷ callers)))
     act (Ask service m answers k) vs =
         after (taken m vs) (λ x. after (requested service x.0) (λ r. asked (asker answers x.1 k) r))
-    act (Repeat k) [] = stuck
-    act (Repeat k) (Code g ∷ rest) = asked (asker false rest k) (Spawn (repeating g))
-    act (Repeat k) (v ∷ rest) = stuck
+    act (Repeat k) vs =
+        with_latest vs (λ v rest. after (code v) (λ g. asked (asker false rest k) (Spawn (repeating g))))
     act (Again s k) vs = Goes (now vs (runs (is_maker P.classes function) s k k k)) heap
     act (Each i s k) vs =
         after (next_item heap (names.locals (suc i)) (names.locals (suc (suc i)))) (λ x. takes_item i s vs k x)

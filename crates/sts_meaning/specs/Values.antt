@@ -54,7 +54,8 @@ quotient x y = if int_eq y (pos 0) then pos 0 else int_wrapping_div w32 x y
 abbrev pub remainder : ℤ → ℤ → ℤ
 remainder x y = if int_eq y (pos 0) then pos 0 else int_rem x y
 
--- The operators that take two numbers and give one, by their numbers: on whole numbers without bound, and then ToInt32 (ECMA-262, 6.1.6.1).
+-- The operators that take two numbers of 32 bits and give one, by their numbers: ECMA-262's (6.1.6.1) followed by `| 0`, but `*` is
+-- `Math.imul`, without rounding.
 abbrev pub arithmetic : ℕ → ℤ → ℤ → Option ℤ
 arithmetic op x y =
     if op == BIT_OR then Some (int_bit_or w32 x y)
@@ -108,7 +109,7 @@ applied op a b =
     else if op == UNEQUAL then then_gives (same a b) (λ e. Gives (truth (not e)))
     else of_numbers op a b
 
--- a prefix operator: `-`, `+`, `!`, `~`
+-- the prefix operators: `-`, `+`, `!`, `~`
 abbrev pub prefixed : ℕ → ℤ → Option Value
 prefixed op x =
     if op == NEGATE then Some (Whole (to_int32 (pos 0 -ℤ x)))
@@ -117,8 +118,9 @@ prefixed op x =
     else if op == COMPLEMENT then Some (Whole (int_bit_not w32 x))
     else None
 
-abbrev pub negated : ℕ → Value → Outcome Value
-negated op a = then_gives (whole a) (λ x. there (prefixed op x))
+-- one of them before its operand
+abbrev pub applied_before : ℕ → Value → Outcome Value
+applied_before op a = then_gives (whole a) (λ x. there (prefixed op x))
 
 -- `++` and `--`: the number that is stored, and the one that is the expression's value
 pub record Bumped : Type 0 where

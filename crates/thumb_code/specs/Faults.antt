@@ -9,15 +9,16 @@ undefined = 1
 abbrev pub unaligned : ℕ
 unaligned = 2
 
--- The address is outside the map, or a store is to flash.
+-- An access is outside the map, a store is to flash, or a halfword of an instruction is outside flash.
 abbrev pub out_of_map : ℕ
 out_of_map = 3
 
--- A branch's target has bit 0 clear, which asks for another instruction set (ARM DDI 0419, A4.1.1).
+-- BX, BLX or POP goes to an address with bit 0 clear, which asks for another instruction set (ARM DDI 0419, A4.1.1); a service is given
+-- such a code address; or PC is odd.
 abbrev pub not_thumb : ℕ
 not_thumb = 4
 
--- SP is below the stack region or above the base.
+-- SP is below the stack region or above the base, or the base isn't one (`is_base`).
 abbrev pub stack_range : ℕ
 stack_range = 5
 

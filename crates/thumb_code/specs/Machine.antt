@@ -26,7 +26,7 @@ begun base return_to code =
 abbrev pub base_of : List ℕ → ℕ
 base_of flash = flash_word flash 0
 
--- The code address of main, with bit 0 set.
+-- The code address of main, as word 1 has it.
 abbrev pub main_of : List ℕ → ℕ
 main_of flash = flash_word flash 4
 

@@ -14,7 +14,7 @@ is_odd n = n % 2 == 1
 abbrev pub aligned : ℕ → ℕ
 aligned n = n / 4 * 4
 
--- One of R0 to R12.
+-- One of R0 to R12, the general registers (the manual's low ones are R0 to R7).
 abbrev pub low : Registers → ℕ → ℕ
 low s k = slice_index s.r k
 

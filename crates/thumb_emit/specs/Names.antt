@@ -29,5 +29,4 @@ calls_of (op ∷ ops) = call_of op ++ calls_of ops
 -- what the pieces of ops call: the division routine, or a function that the ops call
 abbrev pub IsCalledBy : List Op → What → Type 0
 IsCalledBy ops (Function f) = (f ≡ division) ⊎ Contains (calls_of ops) f
-IsCalledBy ops (Text text) = ⊥
-IsCalledBy ops (Class class) = ⊥
+IsCalledBy ops _ = ⊥

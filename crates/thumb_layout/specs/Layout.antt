@@ -1,19 +1,17 @@
 -- Where pieces stand, by the forms of their branches. Addresses are counted from the function's first byte.
 use Rattle.std.specs.Prelude.{ℕ, zero, suc, ◌+◌, ◌*◌, ◌/◌, List, [], ◌∷◌, ◌++◌, length, Bool, true, false, ◌&&◌, ◌==◌, nat_lt, if◌then◌else◌}
 use Rattle.thumb_layout.specs.declared.pieces.Piece.{Piece}
-use Rattle.thumb_layout.specs.declared.pieces.Piece.TheVariants.{Plain, Label, Go, CallTo, Number, Address}
+use Rattle.thumb_layout.specs.declared.pieces.Piece.TheVariants.{Label, Go, CallTo, Number, Address}
 use Rattle.thumb_layout.specs.declared.pieces.Entry.{Entry}
 use Rattle.thumb_layout.specs.declared.pieces.Entry.TheVariants.{Value, Of}
 use Rattle.thumb_layout.specs.Pieces.{goes_on, is_small}
 
 -- The bytes of a piece. A branch has form 0, the shortest, 1 or 2.
 abbrev pub size : Piece → ℕ → ℕ
-size (Plain instr) form = 2
 size (Label label) form = 0
 size (Go cond label) form = 2 + 2 * form
 size (CallTo function) form = 4
-size (Number rd value) form = 2
-size (Address rd what) form = 2
+size _ form = 2
 
 -- A load that waits for its entry in a pool: its address and its entry.
 pub record Wait : Type 0 where

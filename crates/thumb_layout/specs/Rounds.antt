@@ -1,7 +1,7 @@
 -- The forms of branches, in rounds: all begin short, and in each round each branch that doesn't fit takes its next form.
 use Rattle.std.specs.Prelude.{◌≡◌, ℕ, zero, suc, ◌+◌, ◌*◌, ◌≤◌, List, [], ◌∷◌, length, Bool, true, false, ◌&&◌, ◌==◌, nat_lt, if◌then◌else◌}
 use Rattle.thumb_layout.specs.declared.pieces.Piece.{Piece}
-use Rattle.thumb_layout.specs.declared.pieces.Piece.TheVariants.{Plain, Label, Go, CallTo, Number, Address}
+use Rattle.thumb_layout.specs.declared.pieces.Piece.TheVariants.{Plain, Label, Go, CallTo}
 use Rattle.thumb_layout.specs.Pieces.{always}
 use Rattle.thumb_layout.specs.Layout.{Wait, Chunk, up, counts_from, end_of, nth, chunks, label_at}
 
@@ -88,8 +88,7 @@ most (Plain instr) = 2
 most (Label label) = 0
 most (Go cond label) = 6
 most (CallTo function) = 4
-most (Number rd value) = 10
-most (Address rd what) = 10
+most _ = 10
 
 abbrev pub total_most : List Piece → ℕ
 total_most [] = 0

@@ -50,7 +50,12 @@ pub record BlockedBy (key : ℕ) (t : Turning) (why : Why) (now : ℕ) (h h' : H
   pub counts : h' ≡ counted h steps
   pub updates : Updates old.pool new.pool key (Some (record (kept_of old.machine t) { words = left.words }))
   pub live : slab_len new.pool ≡ slab_len old.pool
-  pub rest : new ≡ record old { machine = with_stack old.machine left.stack; pool = new.pool; running = None; lists = joined why now key old.lists }
+  pub rest : new ≡ record old {
+    machine = with_stack old.machine left.stack;
+    pool = new.pool;
+    running = None;
+    lists = joined why now key old.lists;
+  }
 
 -- The first ready fiber is resumed: its registers and base are put into the machine, and the held bytes are executed.
 pub record ResumedBy (h h' : Held) (old new : State) : Type 0 where
@@ -64,7 +69,10 @@ pub record ResumedBy (h h' : Held) (old new : State) : Type 0 where
   pub executes : in_by h.bytes old.machine.memory.stack kept ≡ (steps, left)
   pub counts : h' ≡ counted h steps
   pub rest : new ≡ record old {
-    machine = record { registers = kept.registers; memory = record old.machine.memory { base = kept.base; stack = left.stack } };
+    machine = record {
+      registers = kept.registers;
+      memory = record old.machine.memory { base = kept.base; stack = left.stack };
+    };
     pool = with_value old.pool key (record kept { words = left.words });
     running = Some (turning_of key kept);
     lists = new.lists;

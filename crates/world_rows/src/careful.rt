@@ -5,8 +5,7 @@ ghost use Rattle.board_world.specs.Observations.{Faulted};
 ghost use Rattle.board_world.specs.Board.{Entry};
 ghost use Rattle.board_world.specs.World.{start};
 ghost use Rattle.board_world.specs.Runs.{Arrival, Rises, run_with, run};
-ghost use Rattle.board_world.specs.Invariants.{SoundEnd};
-ghost use Rattle.board_world.specs.Implements.{Implements, boards_from};
+ghost use Rattle.board_world.specs.Implements.{EndsByNoFault, Implements, boards_from};
 ghost use Rattle.world_rows.specs.Clerks.{Routine, clerks};
 ghost use Rattle.world_rows.specs.Careful.{tellers, AreCareful};
 ghost use Rattle.world_rows.specs.Programs.{hasty};
@@ -16,7 +15,7 @@ ghost use Rattle.world_rows.specs.Programs.{hasty};
 pub fn careful_programs_make_no_fault()
     ensures no_fault { (program : List Routine) → AreCareful program
         → (until : ℕ) (script : List Entry) (arrivals : List Arrival) → Rises 0 arrivals → (m : ℕ)
-        → SoundEnd (λ kind address. ⊥)
+        → EndsByNoFault
         (run_with (tellers program) arrivals m (start (tellers program) 0 (pos 0) until script)).board.end }
     ensures implemented { (program : List Routine) → AreCareful program
         → Implements 1 (boards_from (tellers program) 0 (pos 0)) (boards_from (clerks program) 0 (pos 0)) }
