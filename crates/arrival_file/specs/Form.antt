@@ -4,23 +4,20 @@ use Rattle.serde_json.specs.Data.{Data}
 use Rattle.event_script.specs.Trees.{whole, has_members, only_if, list_of}
 use Rattle.event_script.specs.Form.{act_of}
 use Rattle.event_script.specs.declared.script.Act.{Act}
-use Rattle.event_script.specs.declared.script.Act.TheVariants.{Down, Up, Raise, Unplug}
+use Rattle.event_script.specs.declared.script.Act.TheVariants.{Unplug}
 use Rattle.arrival_file.specs.Limits.{greatest_after}
 use Rattle.arrival_file.specs.declared.arrival.Arrival.{Arrival}
 
 -- what may arrive: all that an entry of a script does, but for an unplug
 abbrev pub may_arrive : Act → Bool
-may_arrive (Down button) = true
-may_arrive (Up button) = true
-may_arrive (Raise event) = true
 may_arrive (Unplug port) = false
+may_arrive _ = true
 
 -- nothing arrives behind no instruction
 abbrev pub arrival_with : Option ℕ → Option Act → Option Arrival
 arrival_with (Some after) (Some act) =
     only_if (nat_lt 0 after && may_arrive act) (Some (record { after = after; act = act }))
-arrival_with (Some after) None = None
-arrival_with None act = None
+arrival_with _ _ = None
 
 -- `after` is the number of instructions behind which it comes, up to the greatest; the other members are those of an entry of a script, without `at`
 abbrev pub arrival_of : Data → Option Arrival

@@ -33,7 +33,12 @@ command_app name =
 
 -- no word stands before the subcommand, and there is no help
 abbrev pub without_help : Shape → Shape
-without_help s = record s { no_binary_name = true; disable_help_flag = true; disable_help_subcommand = true; subcommand_required = true }
+without_help s = record s {
+  no_binary_name = true;
+  disable_help_flag = true;
+  disable_help_subcommand = true;
+  subcommand_required = true;
+}
 
 abbrev pub bare_app : App
 bare_app = on_top without_help (new_app (codes "sts"))

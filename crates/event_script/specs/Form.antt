@@ -16,8 +16,7 @@ button_of d =
 
 abbrev pub raised_with : Option ℕ → Option ℕ → Option Act
 raised_with (Some source) (Some value) = Some (Raise (record { source = pos source; value = pos value }))
-raised_with (Some source) None = None
-raised_with None value = None
+raised_with _ _ = None
 
 -- `do` says what happens, and with `at` these are the members: `button`; `source` and `value`, up to the greatest number; `port`, up to the last one
 abbrev pub act_of : Data → Option Act
@@ -32,8 +31,7 @@ act_of d =
 
 abbrev pub entry_with : Option ℕ → Option Act → Option Entry
 entry_with (Some at) (Some act) = Some (record { at = at; act = act })
-entry_with (Some at) None = None
-entry_with None act = None
+entry_with _ _ = None
 
 -- `at` is the moment in milliseconds, up to the latest end
 abbrev pub entry_of : Data → Option Entry
@@ -45,8 +43,7 @@ entries_of = items_of entry_of
 
 abbrev pub script_with : Option ℕ → Option (List Entry) → Option Script
 script_with (Some end) (Some entries) = Some (record { end = end; entries = entries })
-script_with (Some end) None = None
-script_with None entries = None
+script_with _ _ = None
 
 -- the members are `end`, in milliseconds up to the latest end, and `events`, a list of entries
 abbrev pub script_of : Data → Option Script

@@ -44,8 +44,7 @@ only_if false o = None
 -- all items, where each is read as something
 abbrev pub all_of : {X : Type 0} → Option X → Option (List X) → Option (List X)
 all_of (Some x) (Some xs) = Some (x ∷ xs)
-all_of (Some x) None = None
-all_of None xs = None
+all_of _ _ = None
 
 abbrev pub items_of : {X : Type 0} → (Data → Option X) → Items → Option (List X)
 items_of read no_items = Some []

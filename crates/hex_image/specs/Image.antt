@@ -1,7 +1,7 @@
 -- What records give: bytes at addresses, and the image that these make.
 use Rattle.std.specs.Prelude.{ℕ, ◌+◌, ◌*◌, ◌%◌, ◌^◌, ◌==◌, max, Option, Some, None, unwrap_or, List, [], ◌∷◌, ◌++◌, map, if◌then◌else◌}
 use Rattle.std.specs.List.{range_with_len}
-use Rattle.hex_image.specs.Records.{Record, Bytes, End, Segment, Linear, Start}
+use Rattle.hex_image.specs.Records.{Record, Bytes, Segment, Linear}
 use Rattle.hex_image.specs.declared.flash.Base.{Base}
 use Rattle.hex_image.specs.declared.flash.Base.TheVariants as bases
 
@@ -17,9 +17,7 @@ address (bases.Linear n) offset = (65536 * n + offset) % 2 ^ 32
 abbrev pub base_behind : Base → Record → Base
 base_behind base (Segment n) = bases.Segment n
 base_behind base (Linear n) = bases.Linear n
-base_behind base (Bytes offset bytes) = base
-base_behind base End = base
-base_behind base Start = base
+base_behind base _ = base
 
 -- a data byte and its address
 pub record Cell : Type 0 where
@@ -34,10 +32,7 @@ cells_from base offset (b ∷ bytes) = record { at = address base offset; byte =
 -- what one record gives
 abbrev pub cells_of : Base → Record → List Cell
 cells_of base (Bytes offset bytes) = cells_from base offset bytes
-cells_of base End = []
-cells_of base (Segment n) = []
-cells_of base (Linear n) = []
-cells_of base Start = []
+cells_of base _ = []
 
 -- what records give, one behind the other
 abbrev pub given : Base → List Record → List Cell

@@ -5,7 +5,7 @@ use Rattle.hex_image.specs.declared.refused.HexCode.{HexCode}
 use Rattle.hex_image.specs.declared.refused.HexCode.TheVariants.{AfterEnd, PastFlash, Overlap, NoEnd}
 use Rattle.hex_image.specs.declared.flash.Base.{Base}
 use Rattle.hex_image.specs.declared.flash.Base.TheVariants.{Zero}
-use Rattle.hex_image.specs.Records.{Record, Bytes, End, Segment, Linear, Start, full_lines, record_of}
+use Rattle.hex_image.specs.Records.{Record, End, full_lines, record_of}
 use Rattle.hex_image.specs.Image.{Cell, base_behind, cells_of, given, byte_at, image_of}
 
 -- the board's flash, in bytes
@@ -19,10 +19,7 @@ Say lines records = AllZip (λ line r. record_of line ≡ Ok r) lines records
 -- whether a record is the end record
 abbrev pub is_end : Record → Bool
 is_end End = true
-is_end (Bytes offset bytes) = false
-is_end (Segment n) = false
-is_end (Linear n) = false
-is_end Start = false
+is_end _ = false
 
 -- whether the end record is among them
 abbrev pub has_end : List Record → Bool

@@ -17,8 +17,7 @@ IsTypeName s (Named at name) i =
     (slice_get s.names name ≢ Some (codes "number")) ×
     (slice_get s.names name ≢ Some (codes "boolean")) ×
     (slice_get s.names name ≢ Some (codes "string"))
-IsTypeName s Nothing i = ⊥
-IsTypeName s (ListOf item) i = ⊥
+IsTypeName s _ i = ⊥
 
 -- A type from one token up to another: a name, and any number of `[]`, where no line break stands before a `[`.
 abbrev pub IsType : Source → Annotation → ℕ → ℕ → Type 0

@@ -1,7 +1,7 @@
 -- The limits of a program's tokens.
 use Rattle.std.specs.Prelude.{ℕ, ◌-◌}
 
--- the nesting that a tree, and a whole text, may have
+-- the greatest nesting of a whole text
 abbrev pub most_nesting : ℕ
 most_nesting = 256
 

@@ -13,7 +13,7 @@ use Rattle.sts_grammar.specs.Headings.{HasResult, AreParameters, IsArrowBehind}
 abbrev pub Stands : Type 1
 Stands = ℕ → ℕ → Type 0
 
--- how tightly a tree holds together when it stands without parentheses
+-- how tightly a tree holds together when it stands without parentheses; an arrow does so as an operand does, other than in ECMA-262
 abbrev pub level : Tree → ℕ
 level (Set at op x a) = assignment_level
 level (Choice at c a b) = assignment_level
@@ -48,7 +48,7 @@ abbrev pub IsLet : Source → Bool → ℕ → Type 0
 IsLet s false i = IsWord s i w.Let
 IsLet s true i = IsWord s i w.Const
 
--- `=>`, where a routine is an arrow
+-- `=>`, where a routine is an arrow; a line break may stand before it, other than in ECMA-262 (15.3)
 abbrev pub HasArrow : Source → Bool → Stands
 HasArrow s false i j = i ≡ j
 HasArrow s true i j = IsMark s i m.Arrow × (j ≡ i + 1)

@@ -21,7 +21,7 @@ cause byte =
     else (if is_ascii_digit byte then code.BadNumber
     else code.BadCharacter)
 
--- From i on neither white space nor a comment stands, nor a token, and the text isn't at its end: an unclosed
+-- At this place neither white space nor a comment begins, nor a token, and the text isn't at its end: an unclosed
 -- comment is neither.
 pub record IsStuck (text : List ℕ) (at : ℕ) : Type 0 where
   pub here : at < length text

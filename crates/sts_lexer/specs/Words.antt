@@ -4,7 +4,7 @@ use lib.Chars.{codes}
 use Rattle.sts_lexer.specs.declared.words.Word.{Word}
 use Rattle.sts_lexer.specs.declared.words.Word.TheVariants as word
 
--- the bytes of a reserved word (ECMA-262, section 12.7.2)
+-- the bytes of a reserved word (ECMA-262, section 12.7.2, without `await`, and with those of strict mode and `private`, `protected`, `public` and their like)
 abbrev pub word_bytes : Word → List ℕ
 word_bytes word.Break = codes "break"
 word_bytes word.Class = codes "class"

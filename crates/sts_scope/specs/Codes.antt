@@ -1,4 +1,4 @@
--- Why a node has no type although its parts have: the first cause of the list.
+-- Why a node has no type although its parts have. A node that always has one is never asked for its cause.
 use Rattle.std.specs.Prelude.{ℕ, Option, Some, None, if◌then◌else◌}
 use Rattle.sts_base.specs.declared.refused.Code.{Code}
 use Rattle.sts_base.specs.declared.refused.Code.TheVariants.{UnknownName, Captures, NeedsType, BadHandler, Mismatch}

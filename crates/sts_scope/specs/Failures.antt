@@ -22,7 +22,7 @@ abbrev pub unless : Bool → Code → ℕ → Option Failure
 unless true code at = None
 unless false code at = failure_at code at
 
--- a node without a type fails
+-- a failure where there is none, as of a node without a type
 abbrev pub own : {A : Type 0} → Option A → Code → ℕ → Option Failure
 own (Some t) code at = None
 own None code at = failure_at code at

@@ -72,7 +72,7 @@ abbrev pub members_routines : List ClassMember → ℕ
 members_routines [] = 0
 members_routines (m ∷ rest) = member_routines m + members_routines rest
 
--- a class whose constructor isn't written has one more, at its own place
+-- a class whose constructor isn't written has one more, numbered before its members'
 abbrev pub unwritten : List ClassMember → ℕ
 unwritten [] = 1
 unwritten (Constructor r ∷ rest) = 0

@@ -89,7 +89,7 @@ abbrev pub numbers_from : ℕ → Program → List ℕ
 numbers_from n [] = []
 numbers_from n (i ∷ rest) = item_numbers n i ++ numbers_from (n + item_routines i) rest
 
--- the number of a class's constructor: the first written one's, else the class's place
+-- the number of a class's constructor: the first written one's, else the first of the class's numbers
 abbrev pub maker_from : ℕ → ℕ → List ClassMember → ℕ
 maker_from first n [] = first
 maker_from first n (Constructor r ∷ rest) = n

@@ -56,12 +56,12 @@ abbrev pub found_around : Known → NameScope → ℕ → Bool → Found
 found_around k p x true = found.Captured
 found_around k p x false = global_named k p.library x
 
--- The innermost local of this function, else what is around it. A name that begins with `$` stands for something in the
--- library alone.
+-- the innermost local of this function, else what is around it
 abbrev pub found_among : Known → NameScope → ℕ → Option ℕ → Found
 found_among k p x (Some i) = found.Local i
 found_among k p x None = found_around k p x (is_some (last_named p.around x))
 
+-- a name that begins with `$` stands for something in the library alone
 abbrev pub is_hidden : List (List ℕ) → NameScope → ℕ → Bool
 is_hidden spellings p x = not p.library && is_dollar spellings x
 
@@ -69,18 +69,19 @@ abbrev pub name_found : List (List ℕ) → Known → NameScope → ℕ → Foun
 name_found spellings k p x =
     if is_hidden spellings p x then found.Unknown else found_among k p x (last_named p.locals x)
 
--- a second local of this name in the block
+-- a number of a local from the first of the block on
 abbrev pub is_from : ℕ → Option ℕ → Bool
 is_from block None = false
 is_from block (Some i) = nat_le block i
 
+-- a local of this name stands in the block already
 abbrev pub is_twice : NameScope → ℕ → Bool
 is_twice p x = is_from p.block (last_named p.locals x)
 
--- behind a declaration
 abbrev pub local : ℕ → Option StaticType → Bool → Local
 local x kind fixed = record { name = x; kind = kind; fixed = fixed }
 
+-- behind a declaration
 abbrev pub with : NameScope → ℕ → Option StaticType → Bool → NameScope
 with p x kind fixed = record p { locals = p.locals ++ local x kind fixed ∷ [] }
 

@@ -2,7 +2,7 @@
 use Rattle.std.specs.Prelude.{ℕ, suc, ◌+◌, ◌*◌, max, Option, Some, None, List, [], ◌∷◌, length}
 use Rattle.sts_syntax.specs.declared.typed.Callee.{Callee}
 use Rattle.sts_syntax.specs.declared.typed.Callee.TheVariants as c
-use Rattle.sts_syntax.specs.TypedTrees.{TypedTree, Num, Text, Truth, Null, This, Name, Unary, Binary, Both, Either, Choice, Set, Bump, Field, Length, Item, Call, SuperCall, Make, Items, Handler, TypedTrees, none, more, TypedDeclaration, TypedStatement, Block, Let, IfOnly, IfElse, While, DoWhile, For, ForOf, Return, Break, Continue, Plain, Empty, TypedStatements, done, also, OptionalTypedStatement, omitted, written, TypedRoutine, ClassEntry}
+use Rattle.sts_syntax.specs.TypedTrees.{TypedTree, Name, Unary, Binary, Both, Either, Choice, Set, Bump, Field, Length, Item, Call, SuperCall, Make, Items, TypedTrees, none, more, TypedDeclaration, TypedStatement, Block, Let, IfOnly, IfElse, While, DoWhile, For, ForOf, Return, Plain, TypedStatements, done, also, OptionalTypedStatement, omitted, written, TypedRoutine, ClassEntry}
 use Rattle.sts_syntax.specs.BoardTable.{row_of, arranged}
 
 -- Values of a list that are pending one above the other: each is held above those before it.
@@ -21,10 +21,7 @@ total (n ∷ ns) = n + total ns
 -- the arguments of a call as it makes them: a service has numbers of its own between those that are written, each of which is so much
 abbrev pub argument_sizes : ℕ → Callee → List ℕ → List ℕ
 argument_sizes size (c.Board call) sizes = arranged (λ n. size) (row_of call).action sizes
-argument_sizes size (c.Function f) sizes = sizes
-argument_sizes size (c.Slot s) sizes = sizes
-argument_sizes size c.Push sizes = sizes
-argument_sizes size c.Pop sizes = sizes
+argument_sizes size _ sizes = sizes
 
 -- What an assignment holds, by its target: a name, a field of a, or the item i of a. `read` is 1 where the target is read first.
 abbrev pub name_hold : ℕ → ℕ → ℕ
@@ -43,12 +40,6 @@ reads_first (Some op) = 1
 abbrev mutual
   -- the greatest number of values that are pending at once while an expression is evaluated, its own one included
   pub hold : TypedTree → ℕ
-  hold (Num t n) = 1
-  hold (Text t n) = 1
-  hold (Truth t b) = 1
-  hold (Null t) = 1
-  hold (This t) = 1
-  hold (Name t x) = 1
   hold (Unary t op a) = hold a
   hold (Binary t op a b) = max (hold a) (1 + hold b)
   hold (Both t a b) = max (hold a) (hold b)
@@ -63,7 +54,7 @@ abbrev mutual
   hold (SuperCall t f args) = max 1 (stacked 1 (holds args))
   hold (Make t class args) = max (1 + length (holds args)) (stacked 0 (holds args))
   hold (Items t items) = 1 + greatest (holds items)
-  hold (Handler t f) = 1
+  hold _ = 1
 
   pub holds : TypedTrees → List ℕ
   holds none = []
@@ -74,32 +65,13 @@ abbrev mutual
   target_hold (Name t x) read r = name_hold read r
   target_hold (Field t a f) read r = field_hold read (hold a) r
   target_hold (Item t a i) read r = item_hold read (hold a) (hold i) r
-  target_hold (Num t n) read r = 0
-  target_hold (Text t n) read r = 0
-  target_hold (Truth t b) read r = 0
-  target_hold (Null t) read r = 0
-  target_hold (This t) read r = 0
-  target_hold (Unary t op a) read r = 0
-  target_hold (Binary t op a b) read r = 0
-  target_hold (Both t a b) read r = 0
-  target_hold (Either t a b) read r = 0
-  target_hold (Choice t test a b) read r = 0
-  target_hold (Set t op x a) read r = 0
-  target_hold (Bump t x by late) read r = 0
-  target_hold (Length t a) read r = 0
-  target_hold (Call t f args) read r = 0
-  target_hold (SuperCall t f args) read r = 0
-  target_hold (Make t class args) read r = 0
-  target_hold (Items t items) read r = 0
-  target_hold (Handler t f) read r = 0
+  target_hold _ read r = 0
 
 -- the arguments that a call leaves in the caller's frame: those of functions and methods, none of services
 abbrev pub passed : Callee → ℕ → ℕ
 passed (c.Function f) n = n
 passed (c.Slot s) n = n
-passed c.Push n = 0
-passed c.Pop n = 0
-passed (c.Board call) n = 0
+passed _ n = 0
 
 abbrev pub how_many : TypedTrees → ℕ
 how_many none = 0
@@ -108,12 +80,6 @@ how_many (more a rest) = suc (how_many rest)
 abbrev mutual
   -- the greatest number of arguments that a call in an expression leaves, with `this`
   pub outgoing : TypedTree → ℕ
-  outgoing (Num t n) = 0
-  outgoing (Text t n) = 0
-  outgoing (Truth t b) = 0
-  outgoing (Null t) = 0
-  outgoing (This t) = 0
-  outgoing (Name t x) = 0
   outgoing (Unary t op a) = outgoing a
   outgoing (Binary t op a b) = max (outgoing a) (outgoing b)
   outgoing (Both t a b) = max (outgoing a) (outgoing b)
@@ -128,7 +94,7 @@ abbrev mutual
   outgoing (SuperCall t f args) = max (1 + how_many args) (outgoing_all args)
   outgoing (Make t class args) = max (1 + how_many args) (outgoing_all args)
   outgoing (Items t items) = outgoing_all items
-  outgoing (Handler t f) = 0
+  outgoing _ = 0
 
   pub outgoing_all : TypedTrees → ℕ
   outgoing_all none = 0
@@ -156,10 +122,8 @@ module _ (size : TypedTree → ℕ) where
         max (greatest_optional first) (max (optional_size test) (max (optional_size step) (greatest_in a)))
     greatest_in (ForOf fixed name list a) = max (size list) (greatest_in a)
     greatest_in (Return value) = optional_size value
-    greatest_in Break = 0
-    greatest_in Continue = 0
     greatest_in (Plain a) = size a
-    greatest_in Empty = 0
+    greatest_in _ = 0
 
     pub greatest_optional : OptionalTypedStatement → ℕ
     greatest_optional omitted = 0

@@ -2,25 +2,19 @@
 -- constructor, a statement, a declared name and an expression. Parentheses, types, parameters and a handler's body count
 -- nothing: its statements are children of the handler.
 use Rattle.std.specs.Prelude.{ℕ, ◌+◌, max, List, [], ◌∷◌}
-use Rattle.sts_syntax.specs.Trees.{Tree, Num, Text, Truth, Null, This, Name, Unary, Binary, Both, Either, Choice, Set, Bump, Member, Item, Call, SuperCall, Make, Items, Handler, Trees, none, more, OptionalTree, absent, present, Statement, Block, Let, IfOnly, IfElse, While, DoWhile, For, ForOf, Return, Break, Continue, Plain, Empty, Statements, done, also, OptionalStatement, omitted, written, Declaration, Declare, Declarations, ended, next, Routine, Does}
+use Rattle.sts_syntax.specs.Trees.{Tree, Unary, Binary, Both, Either, Choice, Set, Bump, Member, Item, Call, SuperCall, Make, Items, Handler, Trees, none, more, OptionalTree, absent, present, Statement, Block, Let, IfOnly, IfElse, While, DoWhile, For, ForOf, Return, Plain, Statements, done, also, OptionalStatement, omitted, written, Declaration, Declare, Declarations, ended, next, Routine, Does}
 use Rattle.sts_syntax.specs.Programs.{ClassMember, Field, Method, Constructor, TopLevel, Class, Function, Main, Program}
 
 abbrev mutual
   -- of an expression
   pub nesting : Tree → ℕ
-  nesting (Num at value) = 1
-  nesting (Text at text) = 1
-  nesting (Truth at value) = 1
-  nesting (Null at) = 1
-  nesting (This at) = 1
-  nesting (Name at name) = 1
   nesting (Unary at op a) = 1 + nesting a
   nesting (Binary at op a b) = 1 + max (nesting a) (nesting b)
   nesting (Both at a b) = 1 + max (nesting a) (nesting b)
   nesting (Either at a b) = 1 + max (nesting a) (nesting b)
   nesting (Choice at c a b) = 1 + max (nesting c) (max (nesting a) (nesting b))
   nesting (Set at op x a) = 1 + max (nesting x) (nesting a)
-  nesting (Bump at x by after) = 1 + nesting x
+  nesting (Bump at x by late) = 1 + nesting x
   nesting (Member at a name) = 1 + nesting a
   nesting (Item at a b) = 1 + max (nesting a) (nesting b)
   nesting (Call at a args) = 1 + max (nesting a) (deepest_tree args)
@@ -28,6 +22,7 @@ abbrev mutual
   nesting (Make at class args) = 1 + deepest_tree args
   nesting (Items at items) = 1 + deepest_tree items
   nesting (Handler at r) = 1 + routine_nesting r
+  nesting _ = 1
 
   -- of the deepest of some expressions, 0 without one
   pub deepest_tree : Trees → ℕ
@@ -51,10 +46,8 @@ abbrev mutual
       (max (optional_nesting step) (statement_nesting a))
   statement_nesting (ForOf at fixed name list a) = 1 + max (nesting list) (statement_nesting a)
   statement_nesting (Return at value) = 1 + optional_nesting value
-  statement_nesting (Break at) = 1
-  statement_nesting (Continue at) = 1
   statement_nesting (Plain at a) = 1 + nesting a
-  statement_nesting (Empty at) = 1
+  statement_nesting _ = 1
 
   -- of the deepest of some statements, 0 without one
   pub deepest_statement : Statements → ℕ

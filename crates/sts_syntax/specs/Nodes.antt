@@ -1,7 +1,7 @@
 -- All expressions of a typed program, and what is counted over a whole program.
 use Rattle.std.specs.Prelude.{ℕ, ◌+◌, ◌*◌, Option, Some, None, List, [], ◌∷◌, ◌++◌, length, drop, suc, ◌<◌, ◌||◌, ◌==◌, Bool, false, if◌then◌else◌, All}
 use Rattle.sts_syntax.specs.declared.typed.Callee.TheVariants as c
-use Rattle.sts_syntax.specs.TypedTrees.{TypedTree, Num, Text, Truth, Null, This, Name, Unary, Binary, Both, Either, Choice, Set, Bump, Field, Length, Item, Call, SuperCall, Make, Items, Handler, TypedTrees, none, more, TypedDeclaration, TypedStatement, Block, Let, IfOnly, IfElse, While, DoWhile, For, ForOf, Return, Break, Continue, Plain, Empty, TypedStatements, done, also, OptionalTypedStatement, omitted, written, TypedRoutine, TypedProgram}
+use Rattle.sts_syntax.specs.TypedTrees.{TypedTree, Num, Text, Truth, Null, This, Name, Unary, Binary, Both, Either, Choice, Set, Bump, Field, Length, Item, Call, SuperCall, Make, Items, Handler, TypedTrees, none, more, TypedDeclaration, TypedStatement, Block, Let, IfOnly, IfElse, While, DoWhile, For, ForOf, Return, Plain, TypedStatements, done, also, OptionalTypedStatement, omitted, written, TypedRoutine, TypedProgram}
 use Rattle.sts_syntax.specs.BoardTable.{row_of, BoardAction, Service, Library, Repeats, library_size}
 use Rattle.sts_syntax.specs.Weights.{routines_weight, repeating_weight}
 
@@ -55,10 +55,8 @@ abbrev mutual
       first_expressions first ++ optional_nodes test ++ optional_nodes step ++ expressions a
   expressions (ForOf fixed name list a) = nodes list ++ expressions a
   expressions (Return value) = optional_nodes value
-  expressions Break = []
-  expressions Continue = []
   expressions (Plain a) = nodes a
-  expressions Empty = []
+  expressions _ = []
 
   pub first_expressions : OptionalTypedStatement → List TypedTree
   first_expressions omitted = []
@@ -91,7 +89,7 @@ abbrev pub is_among : List ℕ → ℕ → Bool
 is_among [] n = false
 is_among (m ∷ rest) n = m == n || is_among rest n
 
--- the bytes of those texts, numbered from one on, that are used
+-- the bytes of those of these texts that are used, where the first has this number
 abbrev pub used_bytes : ℕ → List (List ℕ) → List ℕ → ℕ
 used_bytes from [] used = 0
 used_bytes from (text ∷ rest) used = (if is_among used from then length text else 0) + used_bytes (suc from) rest used

@@ -1,5 +1,6 @@
 -- Trees without what memory adds: no pointers, and lists as lists. `at` is a place: an expression's and a statement's is its
--- first token's, a declaration's its name's. Names and texts are numbers in their tables, operators have their numbers.
+-- first token's; a declaration's, a parameter's, a function's and a method's its name's; a constructor's its word's; a handler's its
+-- first token's. Names and texts are numbers in their tables, operators have their numbers.
 use Rattle.std.specs.Prelude.{ℕ, ℤ, Bool, Option, List}
 use Rattle.sts_syntax.specs.Annotations.{Annotation}
 
@@ -20,17 +21,17 @@ mutual
     Name : (at name : ℕ) → Tree
     Unary : (at op : ℕ) (a : Tree) → Tree
     Binary : (at op : ℕ) (a b : Tree) → Tree
-    Both : (at : ℕ) (a b : Tree) → Tree
-    Either : (at : ℕ) (a b : Tree) → Tree
-    Choice : (at : ℕ) (test a b : Tree) → Tree
-    Set : (at : ℕ) (op : Option ℕ) (target a : Tree) → Tree
-    Bump : (at : ℕ) (target : Tree) (by : ℤ) (after : Bool) → Tree
+    Both : (at : ℕ) (a b : Tree) → Tree  -- `&&`
+    Either : (at : ℕ) (a b : Tree) → Tree  -- `||`
+    Choice : (at : ℕ) (test a b : Tree) → Tree  -- `?:`
+    Set : (at : ℕ) (op : Option ℕ) (target a : Tree) → Tree  -- `=`, or with an operator `+=` and its like
+    Bump : (at : ℕ) (target : Tree) (by : ℤ) (late : Bool) → Tree  -- `++` by 1 and `--` by -1; the mark stands behind its target where it is late
     Member : (at : ℕ) (a : Tree) (name : ℕ) → Tree
     Item : (at : ℕ) (a index : Tree) → Tree
     Call : (at : ℕ) (callee : Tree) (args : Trees) → Tree
     SuperCall : (at : ℕ) (method : Option ℕ) (args : Trees) → Tree
-    Make : (at class : ℕ) (args : Trees) → Tree
-    Items : (at : ℕ) (items : Trees) → Tree
+    Make : (at class : ℕ) (args : Trees) → Tree  -- `new`
+    Items : (at : ℕ) (items : Trees) → Tree  -- an array literal
     Handler : (at : ℕ) (routine : Routine) → Tree
 
   -- a list of expressions
@@ -46,7 +47,7 @@ mutual
   -- a statement
   pub data Statement : Type 0 where
     Block : (at : ℕ) (all : Statements) → Statement
-    Let : (at : ℕ) (fixed : Bool) (each : Declarations) → Statement
+    Let : (at : ℕ) (fixed : Bool) (each : Declarations) → Statement  -- `fixed` where it is `const`
     IfOnly : (at : ℕ) (test : Tree) (a : Statement) → Statement
     IfElse : (at : ℕ) (test : Tree) (a b : Statement) → Statement
     While : (at : ℕ) (test : Tree) (a : Statement) → Statement

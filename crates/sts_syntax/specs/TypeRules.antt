@@ -17,13 +17,10 @@ IsOneOf n (m ∷ ms) = (n ≡ m) ⊎ IsOneOf n ms
 
 -- null goes to a text, an object and an array
 abbrev pub TakesNull : ValueType → Type 0
-TakesNull Number = ⊥
-TakesNull Boolean = ⊥
 TakesNull Text = Unit {0}
-TakesNull Nothing = ⊥
 TakesNull (Object c) = Unit {0}
 TakesNull (ListOf u) = Unit {0}
-TakesNull NullType = ⊥
+TakesNull _ = ⊥
 
 -- whole numbers of 32 bits with a sign
 abbrev pub is_int32 : ℤ → Bool

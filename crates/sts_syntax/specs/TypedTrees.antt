@@ -1,5 +1,6 @@
 -- Typed trees without what memory adds: no pointers, and lists as lists. Each expression has its type, and each name, call,
--- member and handler the number of what it stands for.
+-- member and handler the number of what it stands for. What a program does depends on no expression's type: that of an array
+-- literal is noted with its items, and no step reads it.
 use Rattle.std.specs.Prelude.{ℕ, ℤ, Bool, Option, List}
 use Rattle.sts_syntax.specs.declared.typed.Spot.{Spot}
 use Rattle.sts_syntax.specs.declared.typed.Callee.{Callee}
@@ -16,18 +17,19 @@ mutual
     Name : (type : ValueType) (name : Spot) → TypedTree
     Unary : (type : ValueType) (op : ℕ) (a : TypedTree) → TypedTree
     Binary : (type : ValueType) (op : ℕ) (a b : TypedTree) → TypedTree
-    Both : (type : ValueType) (a b : TypedTree) → TypedTree
-    Either : (type : ValueType) (a b : TypedTree) → TypedTree
-    Choice : (type : ValueType) (test a b : TypedTree) → TypedTree
-    Set : (type : ValueType) (op : Option ℕ) (target a : TypedTree) → TypedTree
-    Bump : (type : ValueType) (target : TypedTree) (by : ℤ) (after : Bool) → TypedTree
+    Both : (type : ValueType) (a b : TypedTree) → TypedTree  -- `&&`
+    Either : (type : ValueType) (a b : TypedTree) → TypedTree  -- `||`
+    Choice : (type : ValueType) (test a b : TypedTree) → TypedTree  -- `?:`
+    Set : (type : ValueType) (op : Option ℕ) (target a : TypedTree) → TypedTree  -- `=`, or with an operator `+=` and its like
+    -- `++` and `--`; `late` where the mark stands behind its target
+    Bump : (type : ValueType) (target : TypedTree) (by : ℤ) (late : Bool) → TypedTree
     Field : (type : ValueType) (a : TypedTree) (field : ℕ) → TypedTree
     Length : (type : ValueType) (a : TypedTree) → TypedTree
     Item : (type : ValueType) (a index : TypedTree) → TypedTree
     Call : (type : ValueType) (callee : Callee) (args : TypedTrees) → TypedTree
     SuperCall : (type : ValueType) (function : ℕ) (args : TypedTrees) → TypedTree
-    Make : (type : ValueType) (class : ℕ) (args : TypedTrees) → TypedTree
-    Items : (type : ValueType) (items : TypedTrees) → TypedTree
+    Make : (type : ValueType) (class : ℕ) (args : TypedTrees) → TypedTree  -- `new`
+    Items : (type : ValueType) (items : TypedTrees) → TypedTree  -- an array literal
     Handler : (type : ValueType) (function : ℕ) → TypedTree
 
   -- a list of expressions
@@ -44,7 +46,7 @@ mutual
   -- a statement
   pub data TypedStatement : Type 0 where
     Block : (all : TypedStatements) → TypedStatement
-    Let : (fixed : Bool) (each : List TypedDeclaration) → TypedStatement
+    Let : (fixed : Bool) (each : List TypedDeclaration) → TypedStatement  -- `fixed` where it is `const`, which no step asks for
     IfOnly : (test : TypedTree) (a : TypedStatement) → TypedStatement
     IfElse : (test : TypedTree) (a b : TypedStatement) → TypedStatement
     While : (test : TypedTree) (a : TypedStatement) → TypedStatement

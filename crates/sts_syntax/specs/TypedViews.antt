@@ -29,7 +29,7 @@ abbrev mutual
   typed_node_tree t (n.Choice' p u c q v a r w b) =
       Choice (value_type t) (typed_node_tree u c) (typed_node_tree v a) (typed_node_tree w b)
   typed_node_tree t (n.Set' op p u a q v b) = Set (value_type t) op (typed_node_tree u a) (typed_node_tree v b)
-  typed_node_tree t (n.Bump' p u a by after) = Bump (value_type t) (typed_node_tree u a) by after
+  typed_node_tree t (n.Bump' p u a by late) = Bump (value_type t) (typed_node_tree u a) by late
   typed_node_tree t (n.Field' p u a field) = Field (value_type t) (typed_node_tree u a) field
   typed_node_tree t (n.Length' p u a) = Length (value_type t) (typed_node_tree u a)
   typed_node_tree t (n.Item' p u a q v b) = Item (value_type t) (typed_node_tree u a) (typed_node_tree v b)
@@ -97,7 +97,12 @@ typed_statements [] = done
 typed_statements (s ∷ rest) = also (typed_statement s) (typed_statements rest)
 
 abbrev pub typed_routine : TypedBody → TypedRoutine
-typed_routine b = record { params = value_types b.params; locals = value_types b.locals; gives = value_type b.gives; all = typed_statements b.stmts }
+typed_routine b = record {
+  params = value_types b.params;
+  locals = value_types b.locals;
+  gives = value_type b.gives;
+  all = typed_statements b.stmts;
+}
 
 abbrev pub typed_routines : List TypedBody → List TypedRoutine
 typed_routines [] = []
@@ -112,4 +117,9 @@ class_entries (c ∷ rest) = class_entry c ∷ class_entries rest
 
 -- a whole program
 abbrev pub typed_program : Typed → TypedProgram
-typed_program t = record { classes = class_entries t.classes; functions = typed_routines t.functions; globals = value_types t.globals; main = t.main }
+typed_program t = record {
+  classes = class_entries t.classes;
+  functions = typed_routines t.functions;
+  globals = value_types t.globals;
+  main = t.main;
+}

@@ -40,7 +40,7 @@ abbrev mutual
   node_tree at (n.Either' p i a q j b) = Either at (node_tree i a) (node_tree j b)
   node_tree at (n.Choice' p i c q j a r k b) = Choice at (node_tree i c) (node_tree j a) (node_tree k b)
   node_tree at (n.Set' op p i a q j b) = Set at op (node_tree i a) (node_tree j b)
-  node_tree at (n.Bump' p i a by after) = Bump at (node_tree i a) by after
+  node_tree at (n.Bump' p i a by late) = Bump at (node_tree i a) by late
   node_tree at (n.Member' p i a name) = Member at (node_tree i a) name
   node_tree at (n.Item' p i a q j b) = Item at (node_tree i a) (node_tree j b)
   node_tree at (n.Call' p i a m args) = Call at (node_tree i a) (row_trees args)

@@ -2,16 +2,13 @@
 use Rattle.std.specs.Prelude.{ℕ, ◌+◌, Option, Some, None, List, [], ◌∷◌}
 use Rattle.sts_syntax.specs.declared.typed.Callee.{Callee}
 use Rattle.sts_syntax.specs.declared.typed.Callee.TheVariants as c
-use Rattle.sts_syntax.specs.TypedTrees.{TypedTree, Num, Text, Truth, Null, This, Name, Unary, Binary, Both, Either, Choice, Set, Bump, Field, Length, Item, Call, SuperCall, Make, Items, Handler, TypedTrees, none, more, TypedDeclaration, TypedStatement, Block, Let, IfOnly, IfElse, While, DoWhile, For, ForOf, Return, Break, Continue, Plain, Empty, TypedStatements, done, also, OptionalTypedStatement, omitted, written, TypedRoutine}
+use Rattle.sts_syntax.specs.TypedTrees.{TypedTree, Text, Unary, Binary, Both, Either, Choice, Set, Bump, Field, Length, Item, Call, SuperCall, Make, Items, TypedTrees, none, more, TypedDeclaration, TypedStatement, Block, Let, IfOnly, IfElse, While, DoWhile, For, ForOf, Return, Plain, TypedStatements, done, also, OptionalTypedStatement, omitted, written, TypedRoutine}
 use Rattle.sts_syntax.specs.Measures.{total, argument_sizes}
 
 -- what a call weighs beside its arguments: one through a slot is heavier
 abbrev pub call_weight : Callee → ℕ
-call_weight (c.Function f) = 1
 call_weight (c.Slot s) = 2
-call_weight c.Push = 1
-call_weight c.Pop = 1
-call_weight (c.Board call) = 1
+call_weight _ = 1
 
 abbrev pub set_weight : Option ℕ → ℕ
 set_weight None = 1
@@ -20,12 +17,7 @@ set_weight (Some op) = 3
 abbrev mutual
   -- the weight of an expression
   pub weight_of : TypedTree → ℕ
-  weight_of (Num t n) = 1
   weight_of (Text t n) = 2
-  weight_of (Truth t b) = 1
-  weight_of (Null t) = 1
-  weight_of (This t) = 1
-  weight_of (Name t x) = 1
   weight_of (Unary t op a) = 1 + weight_of a
   weight_of (Binary t op a b) = 1 + weight_of a + weight_of b
   weight_of (Both t a b) = 1 + weight_of a + weight_of b
@@ -40,7 +32,7 @@ abbrev mutual
   weight_of (SuperCall t f args) = 1 + total (weights args)
   weight_of (Make t class args) = 3 + total (weights args)
   weight_of (Items t items) = 2 + total (weights items)
-  weight_of (Handler t f) = 1
+  weight_of _ = 1
 
   pub weights : TypedTrees → List ℕ
   weights none = []
@@ -68,10 +60,8 @@ abbrev mutual
       1 + first_weight first + optional_weight test + optional_weight step + statement_weight a
   statement_weight (ForOf fixed name list a) = 4 + weight_of list + statement_weight a
   statement_weight (Return value) = 1 + optional_weight value
-  statement_weight Break = 1
-  statement_weight Continue = 1
   statement_weight (Plain a) = 1 + weight_of a
-  statement_weight Empty = 1
+  statement_weight _ = 1
 
   pub first_weight : OptionalTypedStatement → ℕ
   first_weight omitted = 0

@@ -1,7 +1,7 @@
 -- Well-typed programs: their functions and classes.
 use Rattle.std.specs.Prelude.{◌≡◌, ℕ, zero, suc, ◌≤◌, Bool, true, false, ◌||◌, ◌==◌, List, [], ◌∷◌, ◌++◌, length, All, Option, Some, None}
 use Rattle.sts_syntax.specs.declared.typed.Spot.{Spot}
-use Rattle.sts_syntax.specs.declared.typed.Spot.TheVariants.{Param, Local, Global}
+use Rattle.sts_syntax.specs.declared.typed.Spot.TheVariants.{Local}
 use Rattle.sts_syntax.specs.Types as t
 use Rattle.sts_syntax.specs.Types.{ValueType}
 use Rattle.sts_syntax.specs.TypedTrees as e
@@ -12,29 +12,28 @@ use Rattle.sts_syntax.specs.Nodes.{is_among, text_bytes, text_weight}
 use Rattle.sts_syntax.specs.TypeRules.{entry, HasClass, HasRoutine, Climbs, HasField, IsMember, HasMethod, MayBegin}
 use Rattle.sts_syntax.specs.WellTyped.{Setting, AreSound, AreGiven, parameters_of}
 
--- whether a function is some class's constructor, or stands in some class's slot
+-- whether a function is some class's constructor
 abbrev pub is_maker : List ClassEntry → ℕ → Bool
 is_maker [] f = false
 is_maker (class ∷ rest) f = class.maker == f || is_maker rest f
 
+-- whether a function stands in some class's slot
 abbrev pub is_method : List ClassEntry → ℕ → Bool
 is_method [] f = false
 is_method (class ∷ rest) f = is_among class.slots f || is_method rest f
 
 -- The locals that are declared in some statements, in text order. A `for of` has two more behind its own: the list, and the next index.
 abbrev pub declared_local : Spot → List ℕ
-declared_local (Param i) = []
 declared_local (Local i) = i ∷ []
-declared_local (Global g) = []
+declared_local _ = []
 
 abbrev pub declared_names : List TypedDeclaration → List ℕ
 declared_names [] = []
 declared_names (d ∷ rest) = declared_local d.name ++ declared_names rest
 
 abbrev pub declared_by_loop : Spot → List ℕ
-declared_by_loop (Param i) = []
 declared_by_loop (Local i) = i ∷ suc i ∷ suc (suc i) ∷ []
-declared_by_loop (Global g) = []
+declared_by_loop _ = []
 
 abbrev mutual
   pub declared : TypedStatement → List ℕ
@@ -46,11 +45,7 @@ abbrev mutual
   declared (e.DoWhile a test) = declared a
   declared (e.For first test step a) = first_declared first ++ declared a
   declared (e.ForOf fixed x list a) = declared_by_loop x ++ declared a
-  declared (e.Return value) = []
-  declared e.Break = []
-  declared e.Continue = []
-  declared (e.Plain a) = []
-  declared e.Empty = []
+  declared _ = []
 
   pub first_declared : OptionalTypedStatement → List ℕ
   first_declared e.omitted = []
@@ -68,7 +63,12 @@ numbers from (suc n) = from ∷ numbers (suc from) n
 module _ (P : TypedProgram) where
   -- a function as its statements see it
   abbrev pub setting : ℕ → TypedRoutine → Setting
-  setting f r = record { routine = r; this = is_maker P.classes f || is_method P.classes f; maker = is_maker P.classes f; main = f == P.main }
+  setting f r = record {
+    routine = r;
+    this = is_maker P.classes f || is_method P.classes f;
+    maker = is_maker P.classes f;
+    main = f == P.main;
+  }
 
   -- The statements of a constructor begin with `super(..)` where its class has a base: the base's constructor is called.
   abbrev pub IsBodyOf : Option ℕ → Setting → TypedStatements → Type 0

@@ -131,15 +131,15 @@ pub fn set(alloc: Global, at: u32, op: Option<u8>, target: Expr, a: Expr) -> Res
 }
 
 /// `++` or `--`: what it adds to the target, and whether it stands behind it.
-pub fn bump(alloc: Global, at: u32, target: Expr, by: i32, after: bool) -> Result<Expr, NoMemory>
-    ensures { IfOk result (λ e. tree e ≡ t.Bump at (tree target) by after) }
+pub fn bump(alloc: Global, at: u32, target: Expr, by: i32, late: bool) -> Result<Expr, NoMemory>
+    ensures { IfOk result (λ e. tree e ≡ t.Bump at (tree target) by late) }
 {
     Ok(Expr {
         at,
         node: Node::Bump {
             target: boxed(alloc, target)?,
             by,
-            after,
+            late,
         },
     })
 }

@@ -52,7 +52,7 @@ pub enum Node {
         /// 1 for `++`, -1 for `--`
         by: i32,
         /// whether it stands after the target, so that its value is the one from before
-        after: bool,
+        late: bool,
     },
     /// `a.m`, with the number of the name `m` in `Tables::names`
     Member(Box<Expr>, u32),

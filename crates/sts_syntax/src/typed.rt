@@ -166,7 +166,7 @@ pub enum TypedNode {
         /// 1 for `++`, -1 for `--`
         by: i32,
         /// whether it stands after the target, so that its value is the one from before
-        after: bool,
+        late: bool,
     },
     /// a field of an object, by its number in `TypedClass::fields`
     Field(Box<TypedExpr>, u32),

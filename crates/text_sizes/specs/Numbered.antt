@@ -1,17 +1,11 @@
 -- How many numbers the functions, parameters and locals of a tree take, those of its function expressions included.
 use Rattle.std.specs.Prelude.{ℕ, suc, ◌+◌, List, [], ◌∷◌, length}
-use Rattle.sts_syntax.specs.Trees.{Tree, Num, Text, Truth, Null, This, Name, Unary, Binary, Both, Either, Choice, Set, Bump, Member, Item, Call, SuperCall, Make, Items, Handler, Trees, none, more, OptionalTree, absent, present, Statement, Block, Let, IfOnly, IfElse, While, DoWhile, For, ForOf, Return, Break, Continue, Plain, Empty, Statements, done, also, OptionalStatement, omitted, written, Declaration, Declare, Declarations, ended, next, Routine, Does}
+use Rattle.sts_syntax.specs.Trees.{Tree, Unary, Binary, Both, Either, Choice, Set, Bump, Member, Item, Call, SuperCall, Make, Items, Handler, Trees, none, more, OptionalTree, absent, present, Statement, Block, Let, IfOnly, IfElse, While, DoWhile, For, ForOf, Return, Plain, Statements, done, also, OptionalStatement, omitted, written, Declaration, Declare, Declarations, ended, next, Routine, Does}
 use Rattle.sts_syntax.specs.Programs.{ClassMember, Field, Method, Constructor, TopLevel, Class, Function, Main, Program}
 use Rattle.sts_scope.specs.Handlers.{unwritten}
 
 abbrev mutual
   pub tree_numbered : Tree → ℕ
-  tree_numbered (Num at n) = 0
-  tree_numbered (Text at n) = 0
-  tree_numbered (Truth at b) = 0
-  tree_numbered (Null at) = 0
-  tree_numbered (This at) = 0
-  tree_numbered (Name at x) = 0
   tree_numbered (Unary at op a) = tree_numbered a
   tree_numbered (Binary at op a b) = tree_numbered a + tree_numbered b
   tree_numbered (Both at a b) = tree_numbered a + tree_numbered b
@@ -26,6 +20,7 @@ abbrev mutual
   tree_numbered (Make at x args) = trees_numbered args
   tree_numbered (Items at items) = trees_numbered items
   tree_numbered (Handler at body) = suc (routine_numbered body)
+  tree_numbered _ = 0
 
   pub trees_numbered : Trees → ℕ
   trees_numbered none = 0
@@ -59,10 +54,8 @@ abbrev mutual
       first_numbered first + optional_numbered test + optional_numbered step + statement_numbered a
   statement_numbered (ForOf at fixed x list a) = 3 + (tree_numbered list + statement_numbered a)
   statement_numbered (Return at value) = optional_numbered value
-  statement_numbered (Break at) = 0
-  statement_numbered (Continue at) = 0
   statement_numbered (Plain at e) = tree_numbered e
-  statement_numbered (Empty at) = 0
+  statement_numbered _ = 0
 
   pub first_numbered : OptionalStatement → ℕ
   first_numbered omitted = 0

@@ -12,5 +12,4 @@ IsFoundOf content limit TooLong = (bytes : List ℕ) × (content ≡ Some bytes)
 -- the bytes that were found are at most `limit`
 abbrev pub IsWithinLimit : ℕ → Found → Type 0
 IsWithinLimit limit (Whole bytes) = length bytes.items ≤ limit
-IsWithinLimit limit Missing = Unit {0}
-IsWithinLimit limit TooLong = Unit {0}
+IsWithinLimit limit _ = Unit {0}

@@ -37,8 +37,8 @@ module _ (e : Expr) where
   pub set_is : (op : Option ℕ) (a b : Box Expr Global) (x y : Expr) → e.node ≡ n.Set op a b → x ≡ a.value → y ≡ b.value → tree e ≡ Set e.at op (tree x) (tree y)
   set_is op a b x y is hx hy = ap (node_tree e.at) is ∙ two (Set e.at op) x y a.value b.value hx hy
 
-  pub bump_is : (a : Box Expr Global) (by : ℤ) (after : Bool) (x : Expr) → e.node ≡ n.Bump a by after → x ≡ a.value → tree e ≡ Bump e.at (tree x) by after
-  bump_is a by after x is hx = ap (node_tree e.at) is ∙ ap (λ q. Bump e.at (tree q) by after) (sym hx)
+  pub bump_is : (a : Box Expr Global) (by : ℤ) (late : Bool) (x : Expr) → e.node ≡ n.Bump a by late → x ≡ a.value → tree e ≡ Bump e.at (tree x) by late
+  bump_is a by late x is hx = ap (node_tree e.at) is ∙ ap (λ q. Bump e.at (tree q) by late) (sym hx)
 
   pub member_is : (a : Box Expr Global) (m : ℕ) (x : Expr) → e.node ≡ n.Member a m → x ≡ a.value → tree e ≡ Member e.at (tree x) m
   member_is a m x is hx = ap (node_tree e.at) is ∙ ap (λ q. Member e.at (tree q) m) (sym hx)

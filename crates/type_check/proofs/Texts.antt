@@ -116,7 +116,7 @@ module _ (tables : Tables) (names : Naming) (k : Known) (p : NameScope) (i b : â
   made_without (t.Plain j (t.Either at a b)) rest e = refl
   made_without (t.Plain j (t.Choice at x a b)) rest e = refl
   made_without (t.Plain j (t.Set at op x a)) rest e = refl
-  made_without (t.Plain j (t.Bump at x by after)) rest e = refl
+  made_without (t.Plain j (t.Bump at x by late)) rest e = refl
   made_without (t.Plain j (t.Member at a x)) rest e = refl
   made_without (t.Plain j (t.Item at a i)) rest e = refl
   made_without (t.Plain j (t.Call at f args)) rest e = refl
@@ -152,7 +152,7 @@ module _ (tables : Tables) (names : Naming) (k : Known) (p : NameScope) (i b : â
   made_with (t.Plain j (t.Either at a b)) rest h e = absurd cc
   made_with (t.Plain j (t.Choice at x a b)) rest h e = absurd cc
   made_with (t.Plain j (t.Set at op x a)) rest h e = absurd cc
-  made_with (t.Plain j (t.Bump at x by after)) rest h e = absurd cc
+  made_with (t.Plain j (t.Bump at x by late)) rest h e = absurd cc
   made_with (t.Plain j (t.Member at a x)) rest h e = absurd cc
   made_with (t.Plain j (t.Item at a i)) rest h e = absurd cc
   made_with (t.Plain j (t.Call at f args)) rest h e = absurd cc

@@ -33,8 +33,7 @@ plain kind = record { kind = kind; part = None }
 abbrev pub fit_all : List ClassHead → List (Option StaticType) → List StaticType → Bool
 fit_all classes [] [] = true
 fit_all classes (o ∷ os) (t ∷ ts) = goes_some classes o t && fit_all classes os ts
-fit_all classes [] (t ∷ ts) = false
-fit_all classes (o ∷ os) [] = false
+fit_all classes _ _ = false
 
 -- they all go to one
 abbrev pub fit_one : List ClassHead → StaticType → List (Option StaticType) → Bool

@@ -58,7 +58,7 @@ pub fn expression(context: &Context, scope: &Scope, role: Role, e: &Expr) -> Res
         Node::Item(a, i) => item(context, scope, a, i, at),
         Node::Choice(q, a, b) => choice(context, scope, q, a, b, at),
         Node::Set(op, x, a) => setting(context, scope, *op, x, a, at),
-        Node::Bump { target, by, after } => bumping(context, scope, target, *by, *after, at),
+        Node::Bump { target, by, late } => bumping(context, scope, target, *by, *late, at),
         Node::Member(a, m) => member(context, scope, role, e, a, *m),
         Node::Items(all) => items(context, scope, role, all.as_slice(), at),
         Node::Call(f, args) => call(context, scope, role, f, args.as_slice(), at),
@@ -186,12 +186,12 @@ fn bumping(
     scope: &Scope,
     x: &Expr,
     by: i32,
-    after: bool,
+    late: bool,
     at: u32,
 ) -> Result<Seen, Refused>
-    ensures found { Finds result (c.failure context.now (place scope.now) role.Free (t.Bump at (tree x.now) by after)) }
+    ensures found { Finds result (c.failure context.now (place scope.now) role.Free (t.Bump at (tree x.now) by late)) }
     ensures seen { IfOk result (λ s. s ≡ c.seen_of context.now (place scope.now) role.Free
-        (t.Bump at (tree x.now) by after)) }
+        (t.Bump at (tree x.now) by late)) }
 {
     let u = expression(context, scope, Role::Free, x)?;
     let can = settable(context, scope, x, u.part);

@@ -75,13 +75,6 @@ abbrev pub new_spots : ℕ → Statement → List Spot
 new_spots m (Let at fixed each) = spots_from m each
 new_spots m _ = []
 
-abbrev pub optional_typed : {A : Type 0} → Option A → (A → Making TypedStatement) → Making TypedStatement
-optional_typed None f = pure e.Empty
-optional_typed (Some a) f = f a
-
-abbrev pub typed_if : TypedTree → TypedStatement → TypedStatement → TypedStatement
-typed_if test a b = e.IfElse test a b
-
 module _ (tables : Tables) (names : Naming) (k : Known) (numbers : Numbering) where
   abbrev pub spot_of : Site → Found → Spot
   spot_of s (found.Local i) = get_or s.spots i (Global 0)
@@ -150,7 +143,7 @@ module _ (tables : Tables) (names : Naming) (k : Known) (numbers : Numbering) wh
   call_takes s (Member at a m) = part_takes (part_in s a m)
   call_takes s _ = []
 
-  -- a function: its parameters are those of the site, its locals those that its statements declare
+  -- a function of these parameters and this result, whose own number is n, and its locals those that its statements declare; those in it are numbered from n + 1 on
   abbrev pub routine : List ValueType → ValueType → Making TypedStatements → ℕ → Made TypedRoutine
   routine params gives all n =
       let made = all 0 (suc n) in

@@ -2,7 +2,7 @@
 -- head of a `for`; and numbers and texts of which something is said, as that numbers have 32 bits.
 use Rattle.std.specs.Prelude.{◌≡◌, ℕ, ◌<◌, ℤ, Bool, true, false, List, [], ◌∷◌}
 use Rattle.sts_syntax.specs.TypeRules.{is_int32, IsOne}
-use Rattle.sts_syntax.specs.Trees.{Tree, Num, Text, Truth, Null, This, Name, Unary, Binary, Both, Either, Choice, Set, Bump, Member, Item, Call, SuperCall, Make, Items, Handler, Trees, none, more, OptionalTree, absent, present, Statement, Block, Let, IfOnly, IfElse, While, DoWhile, For, ForOf, Return, Break, Continue, Plain, Empty, Statements, done, also, OptionalStatement, omitted, written, Declaration, Declare, Declarations, ended, next, Routine, Does}
+use Rattle.sts_syntax.specs.Trees.{Tree, Num, Text, Unary, Binary, Both, Either, Choice, Set, Bump, Member, Item, Call, SuperCall, Make, Items, Handler, Trees, none, more, OptionalTree, absent, present, Statement, Block, Let, IfOnly, IfElse, While, DoWhile, For, ForOf, Return, Break, Continue, Plain, Empty, Statements, done, also, OptionalStatement, omitted, written, Declaration, Declare, Declarations, ended, next, Routine, Does}
 use Rattle.sts_syntax.specs.Programs.{ClassMember, Field, Method, Constructor, TopLevel, Class, Function, Main, Program}
 
 abbrev pub IsOpening : Statement → Type 0
@@ -15,10 +15,6 @@ module _ (IsNumber : ℤ → Type 0) (IsText : ℕ → Type 0) where
     pub TreeHas : Tree → Type 0
     TreeHas (Num at n) = IsNumber n
     TreeHas (Text at n) = IsText n
-    TreeHas (Truth at b) = Unit {0}
-    TreeHas (Null at) = Unit {0}
-    TreeHas (This at) = Unit {0}
-    TreeHas (Name at x) = Unit {0}
     TreeHas (Unary at op a) = TreeHas a
     TreeHas (Binary at op a b) = TreeHas a × TreeHas b
     TreeHas (Both at a b) = TreeHas a × TreeHas b
@@ -33,6 +29,7 @@ module _ (IsNumber : ℤ → Type 0) (IsText : ℕ → Type 0) where
     TreeHas (Make at x args) = TreesHave args
     TreeHas (Items at items) = TreesHave items
     TreeHas (Handler at body) = BodyHas body
+    TreeHas _ = Unit {0}
 
     pub TreesHave : Trees → Type 0
     TreesHave none = Unit {0}
@@ -113,9 +110,6 @@ AreFormed a = TreesHave Is32 Any a
 abbrev pub MayBeFormed : OptionalTree → Type 0
 MayBeFormed a = OptionHas Is32 Any a
 
-abbrev pub IsFormedBody : Routine → Type 0
-IsFormedBody a = BodyHas Is32 Any a
-
 abbrev pub IsFormedDeclaration : Declaration → Type 0
 IsFormedDeclaration a = DeclarationHas Is32 Any a
 
@@ -131,14 +125,8 @@ IsFormedFirst a = FirstHas Is32 Any a
 abbrev pub AreFormedIn : Bool → Statements → Type 0
 AreFormedIn looped a = StatementsHave Is32 Any looped a
 
-abbrev pub IsFormedMember : ClassMember → Type 0
-IsFormedMember a = MemberHas Is32 Any a
-
 abbrev pub AreFormedMembers : List ClassMember → Type 0
 AreFormedMembers a = MembersHave Is32 Any a
-
-abbrev pub IsFormedItem : TopLevel → Type 0
-IsFormedItem a = ItemHas Is32 Any a
 
 abbrev pub IsFormedProgram : Program → Type 0
 IsFormedProgram a = ProgramHas Is32 Any a

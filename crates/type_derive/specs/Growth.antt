@@ -12,8 +12,7 @@ use Rattle.type_derive.specs.Derived.{Less}
 abbrev pub LocalsGrow : List Local → List Local → Type 0
 LocalsGrow [] [] = Unit {0}
 LocalsGrow (l ∷ ls) (m ∷ ms) = (m.name ≡ l.name) × (m.fixed ≡ l.fixed) × Less l.kind m.kind × LocalsGrow ls ms
-LocalsGrow [] (m ∷ ms) = ⊥
-LocalsGrow (l ∷ ls) [] = ⊥
+LocalsGrow _ _ = ⊥
 
 -- the same declarations, with at least as many types
 pub record KnownGrows (k l : Known) : Type 0 where

@@ -9,8 +9,7 @@ use Rattle.sts_syntax.specs.declared.board_calls.BoardCall.{BoardCall}
 use Rattle.sts_syntax.specs.TypedTrees.{TypedRoutine}
 use Rattle.sts_syntax.specs.TypeRules.{entry}
 use Rattle.sts_syntax.specs.Trees.{Does}
-use Rattle.sts_syntax.specs.Programs.{Class, Function, Main, Program}
-use Rattle.sts_scope.specs.declared.kinds.StaticType.{StaticType}
+use Rattle.sts_syntax.specs.Programs.{Function, Program}
 use Rattle.type_derive.specs.Derived.{TypeTable}
 use Rattle.sts_scope.specs.declared.known.Known.{Known}
 use Rattle.sts_scope.specs.declared.known.This.TheVariants as this
@@ -35,8 +34,7 @@ taken (board.Drawing ∷ ps) = t.Number ∷ taken ps
 abbrev pub OnlyFunctions : Program → Type 0
 OnlyFunctions [] = Unit {0}
 OnlyFunctions (Function x r ∷ rest) = OnlyFunctions rest
-OnlyFunctions (Class at x base base_at members ∷ rest) = ⊥
-OnlyFunctions (Main a ∷ rest) = ⊥
+OnlyFunctions _ = ⊥
 
 -- the first failure of the library's functions, which know their own names alone; the first one is the d-th declaration
 module _ (tables : Tables) (names : Naming) (k : Known) where
@@ -45,8 +43,7 @@ module _ (tables : Tables) (names : Naming) (k : Known) where
   library_failure d (Function x (Does at params gives all arrow) ∷ rest) =
       statements_failure tables names k (within (parameter_locals names params) this.Nowhere (kind_at k d) true) all
       then library_failure (suc d) rest
-  library_failure d (Class at x base base_at members ∷ rest) = library_failure d rest
-  library_failure d (Main a ∷ rest) = library_failure d rest
+  library_failure d (_ ∷ rest) = library_failure d rest
 
 -- a library before a text, with these types of declarations
 pub record IsLibrary (tables : Tables) (library text : Program) (kinds : TypeTable) : Type 0 where

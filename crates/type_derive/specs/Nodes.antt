@@ -5,7 +5,7 @@ use Rattle.sts_base.specs.declared.refused.Code.TheVariants.{UnknownName, TwiceN
 use Rattle.sts_syntax.specs.Annotations.{Annotation}
 use Rattle.sts_syntax.specs.BoardTable as board
 use Rattle.sts_syntax.specs.BoardTable.{BoardParameter, row_of}
-use Rattle.sts_syntax.specs.Trees.{Parameter, Tree, Num, Text, Truth, Null, This, Name, Unary, Binary, Both, Either, Choice, Set, Bump, Member, Item, Call, SuperCall, Make, Items, Handler, Trees, none, more, OptionalTree, absent, present, Statement, Block, Let, IfOnly, IfElse, While, DoWhile, For, ForOf, Return, Break, Continue, Plain, Empty, Statements, done, also, OptionalStatement, omitted, written, Declaration, Declare, Declarations, ended, next, Routine, Does}
+use Rattle.sts_syntax.specs.Trees.{Parameter, Tree, This, Name, Unary, Binary, Both, Either, Choice, Set, Bump, Member, Item, Call, SuperCall, Make, Items, Handler, Trees, none, more, OptionalTree, absent, present, Statement, Block, Let, IfOnly, IfElse, While, DoWhile, For, ForOf, Return, Plain, Statements, done, also, OptionalStatement, omitted, written, Declaration, Declare, Declarations, ended, next, Routine, Does}
 use Rattle.sts_scope.specs.declared.kinds.StaticType.{StaticType}
 use Rattle.sts_scope.specs.declared.known.Known.{Known}
 use Rattle.sts_scope.specs.declared.known.Found.{Found}
@@ -36,24 +36,18 @@ abbrev pub is_served : Role → Bool
 is_served Served = true
 is_served _ = false
 
--- a type that is written gives one to what stands there
+-- what the place of a value does with it: where a type is known to be given, `[]` fits
 abbrev pub kind_role : {A : Type 0} → Option A → Role
 kind_role None = Free
 kind_role (Some a) = Given
 
 abbrev pub fits : Known → Option StaticType → Option StaticType → Bool
 fits k (Some s) (Some t) = goes k.classes s t
-fits k (Some s) None = false
-fits k None t = false
+fits k _ _ = false
 
 abbrev pub parameter_types_failure : Naming → List Parameter → Option Failure
 parameter_types_failure names [] = None
 parameter_types_failure names (q ∷ rest) = written_failure names q.at q.shape then parameter_types_failure names rest
-
--- a test of a loop may be left out
-abbrev pub tests : Bool → Bool → Bool
-tests false is = true
-tests true is = is
 
 module _ (tables : Tables) (names : Naming) (k : Known) where
   -- in a handler: its own parameters are known, and its result is the one that is written, else that of its first value, as any function's

@@ -6,7 +6,7 @@ use Rattle.sts_syntax.specs.declared.typed.Spot.TheVariants.{Param, Global}
 use Rattle.sts_syntax.specs.Types as t
 use Rattle.sts_syntax.specs.Types.{ValueType}
 use Rattle.sts_syntax.specs.TypedTrees as e
-use Rattle.sts_syntax.specs.TypedTrees.{TypedTree, TypedTrees, TypedStatement, TypedStatements, TypedDeclaration, TypedRoutine, ClassEntry, TypedProgram}
+use Rattle.sts_syntax.specs.TypedTrees.{TypedTree, TypedTrees, TypedStatement, TypedStatements, TypedDeclaration, TypedRoutine, ClassEntry}
 use Rattle.sts_syntax.specs.Trees.{Parameter, SuperCall, Statement, Let, Plain, Statements, also, Declaration, Declare, Declarations, ended, next, Routine, Does}
 use Rattle.sts_syntax.specs.Programs.{ClassMember, Field, Method, Constructor, Class, Function, Main, Program}
 use Rattle.sts_scope.specs.declared.kinds.StaticType.{StaticType}
@@ -27,7 +27,7 @@ use Rattle.type_derive.specs.Making.{Made, Making, pure, ◌>=>◌}
 use Rattle.sts_scope.specs.Numbers.{Numbering, global_number, field_names, slot_names, place_among, routine_number, maker_number}
 use Rattle.type_derive.specs.Built.{Site, kind_or_nothing, routine, made_first, made_given, made_statement, made_statements}
 
--- so many numbered parameters, from one on
+-- the spots of parameters, from the number i on
 abbrev pub parameter_spots : ℕ → List Parameter → List Spot
 parameter_spots i [] = []
 parameter_spots i (p ∷ rest) = Param i ∷ parameter_spots (suc i) rest
@@ -38,7 +38,7 @@ abbrev pub ◌before◌ : List TypedStatement → TypedStatements → TypedState
 [] before all = all
 (a ∷ rest) before all = e.also a (rest before all)
 
--- parameters that are passed on, from one on
+-- parameters that are passed on, from the number i on
 abbrev pub passed_on : ℕ → List StaticType → TypedTrees
 passed_on i [] = e.none
 passed_on i (u ∷ us) = e.more (e.Name (value_type u) (Param i)) (passed_on (suc i) us)
@@ -143,7 +143,7 @@ module _ (tables : Tables) (names : Naming) (k : Known) (numbers : Numbering) wh
       let inits = initials c first d members in
       unwritten_made (unwritten members) c inits ++ members_made c inits first d members
 
-  -- A statement of the main program: its locals, if it has blocks, are numbered behind m. A declaration gives a global its first value.
+  -- a declaration of the main program gives a global its first value
   abbrev pub global_made : ℕ → Declaration → Making TypedDeclaration
   global_made d (Declare at x shape first) =
       made_first tables names k numbers (record { place = outside this.Nowhere false None; spots = [] }) shape first
@@ -153,6 +153,7 @@ module _ (tables : Tables) (names : Naming) (k : Known) (numbers : Numbering) wh
   globals_made d ended = pure []
   globals_made d (next a rest) = global_made d a >=> λ x. globals_made (suc d) rest >=> λ xs. pure (x ∷ xs)
 
+  -- a statement of the main program, whose locals, if it has blocks, are numbered behind m
   abbrev pub main_made : ℕ → Statement → Making TypedStatement
   main_made d (Let at fixed each) = globals_made d each >=> λ ds. pure (e.Let fixed ds)
   main_made d a =

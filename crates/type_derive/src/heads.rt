@@ -39,7 +39,7 @@ fn super_of(e: &Expr) -> Option<Head<'_>>
         Node::Bump {
             target: _,
             by: _,
-            after: _,
+            late: _,
         } => None,
         Node::Member(_, _) => None,
         Node::Item(_, _) => None,

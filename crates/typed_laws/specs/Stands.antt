@@ -24,12 +24,7 @@ use Rattle.sts_scope.specs.Numbers.{Numbering, global_number, field_names, slot_
 -- a type that values have: `[]` alone has none
 abbrev pub is_proper_base : Base → Bool
 is_proper_base b.Empty = false
-is_proper_base b.Number = true
-is_proper_base b.Boolean = true
-is_proper_base b.Text = true
-is_proper_base b.Nothing = true
-is_proper_base b.Null = true
-is_proper_base (b.Class c) = true
+is_proper_base _ = true
 
 abbrev pub IsProper : StaticType → Type 0
 IsProper u = is_proper_base u.base ≡ true

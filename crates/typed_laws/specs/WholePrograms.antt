@@ -33,11 +33,9 @@ HasItsPlace names x = slice_get names (place_among names x) ≡ Some x
 module _ (k : Known) where
   -- Fields, methods, globals, and functions of the text have a type. A class has none; the library's functions aren't checked with a text.
   abbrev pub HasItsType : ℕ → DeclarationKind → Type 0
-  HasItsType d sort.Field = IsSome (kind_at k d)
-  HasItsType d sort.Method = IsSome (kind_at k d)
-  HasItsType d (sort.Global fixed) = IsSome (kind_at k d)
   HasItsType d sort.Function = k.library ≤ d → IsSome (kind_at k d)
   HasItsType d (sort.Class c) = Unit {0}
+  HasItsType d _ = IsSome (kind_at k d)
 
   abbrev pub DeclarationsHaveTypes : Type 0
   DeclarationsHaveTypes = (d : ℕ) (s : DeclarationKind) → sort_of k.entries d ≡ Some s → HasItsType d s

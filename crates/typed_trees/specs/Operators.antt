@@ -20,11 +20,7 @@ use Rattle.typed_trees.specs.declared.build_places.Plan.{Plan}
 -- the type that is given to the place of the last operand, by that of the one before: what is assigned is given its target's
 abbrev pub last_given : Operator → Option StaticType → Option StaticType
 last_given (o.Set op can) u = Some (unwrap_or u nothing)
-last_given (o.Binary op) u = None
-last_given o.Both u = None
-last_given o.Either u = None
-last_given o.Item u = None
-last_given (o.Choice test) u = None
+last_given _ u = None
 
 -- the type, by those of the last two operands
 abbrev pub operator_kind : Plan → Operator → Option StaticType → Option StaticType → Option StaticType

@@ -4,7 +4,7 @@ use Rattle.sts_syntax.specs.Annotations.{Annotation}
 use Rattle.sts_syntax.specs.BoardTable.{BoardParameter}
 use Rattle.sts_syntax.specs.Trees.{Tree, Trees, OptionalTree, Statement, Statements, OptionalStatement, Declarations, Routine}
 use Rattle.sts_syntax.specs.Types.{ValueType}
-use Rattle.sts_syntax.specs.TypedTrees.{none, more, TypedTree, TypedTrees, TypedStatement, TypedStatements, OptionalTypedStatement, TypedDeclaration, TypedRoutine}
+use Rattle.sts_syntax.specs.TypedTrees.{none, more, TypedTree, TypedTrees, TypedStatement, TypedStatements, TypedDeclaration, TypedRoutine}
 use Rattle.sts_scope.specs.declared.kinds.StaticType.{StaticType}
 use Rattle.sts_scope.specs.Kinds.{nothing, value_type, class_of}
 use Rattle.sts_scope.specs.Rules.{part_of}
@@ -83,9 +83,6 @@ locals_made p = b.made_locals p.tables.now (naming p) p.known.now (numbering_of 
 
 unfoldable pub statement_made : Plan → b.Site → Statement → Making TypedStatement
 statement_made p = b.made_statement p.tables.now (naming p) p.known.now (numbering_of p.numbers.now)
-
-unfoldable pub opening_made : Plan → b.Site → OptionalStatement → Making OptionalTypedStatement
-opening_made p = b.made_opening p.tables.now (naming p) p.known.now (numbering_of p.numbers.now)
 
 unfoldable pub statements_made : Plan → b.Site → Statements → Making TypedStatements
 statements_made p = b.made_statements p.tables.now (naming p) p.known.now (numbering_of p.numbers.now)

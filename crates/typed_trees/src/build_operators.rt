@@ -149,8 +149,8 @@ pub fn prefix_of(op: u8, x: Part) -> Noted
 }
 
 /// The node of `++` and `--`, of their target and whether it may be set.
-pub fn bump_of(by: i32, after: bool, can: bool, x: Part) -> Noted
-    ensures tree { typed_tree result.tree ≡ e.Bump value.Number (typed_tree x.tree.value) by after }
+pub fn bump_of(by: i32, late: bool, can: bool, x: Part) -> Noted
+    ensures tree { typed_tree result.tree ≡ e.Bump value.Number (typed_tree x.tree.value) by late }
     ensures kind { result.kind ≡ bind x.kind (λ u. if can then rule.counted u else None) }
 {
     let kind = bump_kind(can, x.kind);
@@ -159,7 +159,7 @@ pub fn bump_of(by: i32, after: bool, can: bool, x: Part) -> Noted
         TypedNode::Bump {
             target: x.tree,
             by,
-            after,
+            late,
         },
         kind,
     )

@@ -68,9 +68,9 @@ pub fn build_tree(
             let (test, x) = beside(test, build_part(plan, site, builder, None, a))?;
             build_last(plan, site, builder, b, Operator::Choice(test), x)
         }
-        Node::Bump { target, by, after } => {
+        Node::Bump { target, by, late } => {
             let x = build_target(plan, site, builder, target)?;
-            Ok(bump_of(*by, *after, x.can, x.part))
+            Ok(bump_of(*by, *late, x.can, x.part))
         }
         Node::Member(_, _) => {
             let member = build_member(plan, site, builder, given, e)?;

@@ -67,7 +67,7 @@ pub fn increment(alloc: Global, spot: Spot) -> Result<TypedExpr, NoMemory> {
         node: TypedNode::Bump {
             target: boxed(alloc, name(spot))?,
             by: 1,
-            after: true,
+            late: true,
         },
     })
 }

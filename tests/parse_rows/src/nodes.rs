@@ -54,7 +54,7 @@ fn operation<'a>(at: u32, node: &'a Node) -> Parts<'a> {
             ],
         ),
         Node::Set(op, target, a) => pair(assignment(*op), at, Part::Expr(target), Part::Expr(a)),
-        Node::Bump { target, by, after } => single(bump(*by, *after), at, Part::Expr(target)),
+        Node::Bump { target, by, late } => single(bump(*by, *late), at, Part::Expr(target)),
         Node::Member(a, name) => pair(".", at, Part::Expr(a), Part::Name(*name)),
         Node::Item(a, index) => pair("item", at, Part::Expr(a), Part::Expr(index)),
         _ => call(at, node),

@@ -980,10 +980,10 @@ pub build_trees::build_tree-returns-in_err-test-in-Choice-2-clause-kind : goal.b
 build_trees::build_tree-returns-in_err-test-in-Choice-2-clause-kind t c = IfOk-from_err c.from_residual-in_err-test-in-Choice-2.result _ c.from_residual-in_err-test-in-Choice-2.ensures.0
 
 pub build_trees::build_tree-returns-in_ok-x-in-Bump-clause-built : goal.build_trees::build_tree-returns-in_ok-x-in-Bump-clause-built
-build_trees::build_tree-returns-in_ok-x-in-Bump-clause-built t c = let h : typed_tree c.bump_of.result.tree ≡ e.Bump v.Number (typed_tree c.in_ok-x-in-Bump.x.part.tree.value) c.in-Bump.by c.in-Bump.after = search rules in bump_built c.args.plan.now (s.site c.args.site.now) c.args.given c.args.e.now c.in-Bump.target c.in-Bump.by c.in-Bump.after c.deref-in-Bump.result.now c.args.builder.now c.build_target-in-Bump.new.builder c.in_ok-x-in-Bump.x.part (typed_tree c.bump_of.result.tree) c.in-Bump.is c.deref-in-Bump.ensures h c.in_ok-x-in-Bump.ensures.built
+build_trees::build_tree-returns-in_ok-x-in-Bump-clause-built t c = let h : typed_tree c.bump_of.result.tree ≡ e.Bump v.Number (typed_tree c.in_ok-x-in-Bump.x.part.tree.value) c.in-Bump.by c.in-Bump.late = search rules in bump_built c.args.plan.now (s.site c.args.site.now) c.args.given c.args.e.now c.in-Bump.target c.in-Bump.by c.in-Bump.late c.deref-in-Bump.result.now c.args.builder.now c.build_target-in-Bump.new.builder c.in_ok-x-in-Bump.x.part (typed_tree c.bump_of.result.tree) c.in-Bump.is c.deref-in-Bump.ensures h c.in_ok-x-in-Bump.ensures.built
 
 pub build_trees::build_tree-returns-in_ok-x-in-Bump-clause-kind : goal.build_trees::build_tree-returns-in_ok-x-in-Bump-clause-kind
-build_trees::build_tree-returns-in_ok-x-in-Bump-clause-kind t c = bump_kind c.args.plan.now (s.site c.args.site.now) c.args.given c.args.e.now c.in-Bump.target c.in-Bump.by c.in-Bump.after c.deref-in-Bump.result.now c.deref-in-Bump.result.now c.in_ok-x-in-Bump.x.part.kind c.bump_of.result.kind c.in_ok-x-in-Bump.x.can c.in-Bump.is c.deref-in-Bump.ensures c.deref-in-Bump.ensures c.in_ok-x-in-Bump.ensures.kind c.in_ok-x-in-Bump.ensures.can c.bump_of.ensures.kind
+build_trees::build_tree-returns-in_ok-x-in-Bump-clause-kind t c = bump_kind c.args.plan.now (s.site c.args.site.now) c.args.given c.args.e.now c.in-Bump.target c.in-Bump.by c.in-Bump.late c.deref-in-Bump.result.now c.deref-in-Bump.result.now c.in_ok-x-in-Bump.x.part.kind c.bump_of.result.kind c.in_ok-x-in-Bump.x.can c.in-Bump.is c.deref-in-Bump.ensures c.deref-in-Bump.ensures c.in_ok-x-in-Bump.ensures.kind c.in_ok-x-in-Bump.ensures.can c.bump_of.ensures.kind
 
 pub build_trees::build_tree-returns-in_err-x-in-Bump-clause-built : goal.build_trees::build_tree-returns-in_err-x-in-Bump-clause-built
 build_trees::build_tree-returns-in_err-x-in-Bump-clause-built t c = IfOk-from_err c.from_residual-in_err-x-in-Bump.result _ c.from_residual-in_err-x-in-Bump.ensures.0

@@ -63,6 +63,11 @@ hold-returns-in-Items t c =
     let s = ap (λ xs. greatest (holds (typed_trees xs))) c.as_slice-in-Items.ensures in
     omega (arith, h, s, c.greatest_hold.ensures)
 
+pub placed_hold-overflow_add-below-in-len1-up : goal.placed_hold-overflow_add-below-in-len1-up
+placed_hold-overflow_add-below-in-len1-up t c =
+    let next = weights_next c.args.args.now 0 c.a-item.result (omega arith) c.a-item.is in
+    omega (arith, next, hold_le (typed_tree c.a-item.result), c.hold.ensures, c.requires.few, c.requires.below)
+
 pub stacked_hold-overflow_add-pending : goal.stacked_hold-overflow_add-pending
 stacked_hold-overflow_add-pending t c =
     let lt : c.loop-a.a-index < length c.args.all.now = omega arith in

@@ -136,7 +136,7 @@ expression-returns-in-Bump t c =
     let z = c.args.context.now in
     let p = place c.args.scope.now in
     let r = c.args.role in
-    let is = bump_is c.args.e.now c.in-Bump.target c.in-Bump.by c.in-Bump.after c.deref-in-Bump.result.now c.in-Bump.is c.deref-in-Bump.ensures in
+    let is = bump_is c.args.e.now c.in-Bump.target c.in-Bump.by c.in-Bump.late c.deref-in-Bump.result.now c.in-Bump.is c.deref-in-Bump.ensures in
     record { found = finds_as z p r c.bumping.result _ _ is c.bumping.ensures.found; seen = sees_as z p r c.bumping.result _ _ is c.bumping.ensures.seen }
 
 pub expression-returns-in-Member : goal.expression-returns-in-Member

@@ -48,7 +48,7 @@ abbrev pub decreases-setting : goal.decreases-setting
 decreases-setting l = 8 * nesting (t.Set l.at l.op (tree l.x.now) (tree l.a.now)) + 6
 
 abbrev pub decreases-bumping : goal.decreases-bumping
-decreases-bumping l = 8 * nesting (t.Bump l.at (tree l.x.now) l.by l.after) + 6
+decreases-bumping l = 8 * nesting (t.Bump l.at (tree l.x.now) l.by l.late) + 6
 
 abbrev pub decreases-member : goal.decreases-member
 decreases-member l = 8 * nesting (t.Member l.e.now.at (tree l.a.now) l.m) + 6
