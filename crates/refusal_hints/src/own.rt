@@ -50,22 +50,22 @@ static LOW: [Explanation; 8] = [
 /// Those of the codes 8 to 15.
 static HIGH: [Explanation; 8] = [
     Explanation {
-        sentence: "A name or member isn't known, or a class is used as a value, `this` stands outside a method, or a name begins with `$`: see how the name is written, upper and lower case; declare it before it is used, in this block or outside.",
+        sentence: "A name or member isn't known, or a class is used as a value, `this` stands outside a class, or a name begins with `$`: see how the name is written, upper and lower case; declare it before it is used, in this block or outside.",
         example: "let x = 1; serial.writeNumber(x)",
         opened: None,
     },
     Explanation {
-        sentence: "A name stands twice: two globals, functions or classes; two parameters; two members; two locals of a block; a field that a base has: give one of them another name.",
+        sentence: "A name stands twice: two globals, functions or classes; two parameters; two members or constructors; two locals of a block; a field of the name of a base's member, a method of the name of a base's field: give one of them another name.",
         example: "let a = 1; let b = 2",
         opened: None,
     },
     Explanation {
-        sentence: "A handler uses a local of the function around it, or `this`: make it a global.",
+        sentence: "A handler uses a parameter or local from outside it, or `this` or `super`: make it a global.",
         example: "let v = 5",
         opened: None,
     },
     Explanation {
-        sentence: "A type doesn't fit, the number of arguments is another, a `const` is set, `super(..)` is missing or stands elsewhere: see what type the place takes: for a test write a comparison.",
+        sentence: "A type doesn't fit, `[]` stands where no type is given, the number of arguments is another, a `const` is set, `super(..)` is missing or stands elsewhere: see what type the place takes: for a test write a comparison.",
         example: "let a = 1 + 1",
         opened: None,
     },
@@ -85,7 +85,7 @@ static HIGH: [Explanation; 8] = [
         opened: None,
     },
     Explanation {
-        sentence: "A limit is passed: divide a long function in two; write a drawing as data.",
+        sentence: "A limit is passed (the place doesn't tell where): a function is too long (divide it in two), or the whole text (write a drawing as data), or there are more than 8 parameters with `this`, 64 locals, 256 globals, 64 classes, or 30 fields or 30 methods of a class, or too much text in quotes: see \"Limits\" in docs/LANGUAGE.md.",
         example: "",
         opened: None,
     },

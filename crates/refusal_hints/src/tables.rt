@@ -23,7 +23,7 @@ use names::{
 use rest::{captured, handlers_1, handlers_2, twice, untold};
 use takes::{takes_1, takes_2, takes_3};
 use tokens::{characters_1, characters_2, numbers, texts};
-use types::{types_1, types_2, types_3, types_4, types_5};
+use types::{types_1, types_2, types_3, types_4, types_5, types_6};
 
 /// Tables, one behind the other.
 pub type Rows = [&'static [Row]; 20];
@@ -91,7 +91,7 @@ fn of_types() -> Rows {
         types_3(),
         types_4(),
         types_5(),
-        &[],
+        types_6(),
         &[],
         &[],
         &[],

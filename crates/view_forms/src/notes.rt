@@ -62,7 +62,7 @@ pub const NOTES: [Note; 54] = [
     Note {
         begins: "budget ",
         ends: "",
-        says: "the program wasn't done: a loop that never waits, as `while (true) { }`. Put a `basic.pause` into it, or give `--budget` more",
+        says: "the program wasn't done: either a loop never waits, as `while (true) { }`: put a `basic.pause` into it; or it computes long: give `--budget` more",
     },
     Note {
         begins: "fault ",
@@ -122,22 +122,22 @@ pub const NOTES: [Note; 54] = [
     Note {
         begins: "refused 8 ",
         ends: "",
-        says: "a name or member isn't known, or a class is used as a value, `this` stands outside a method, or a name begins with `$`: see how the name is written, upper and lower case; declare it before it is used, in this block or outside",
+        says: "a name or member isn't known, or a class is used as a value, `this` stands outside a class, or a name begins with `$`: see how the name is written, upper and lower case; declare it before it is used, in this block or outside",
     },
     Note {
         begins: "refused 9 ",
         ends: "",
-        says: "a name stands twice: two globals, functions or classes; two parameters; two members; two locals of a block; a field that a base has: give one of them another name",
+        says: "a name stands twice: two globals, functions or classes; two parameters; two members or constructors; two locals of a block; a field of the name of a base's member, a method of the name of a base's field: give one of them another name",
     },
     Note {
         begins: "refused 10 ",
         ends: "",
-        says: "a handler uses a local of the function around it, or `this`: make it a global",
+        says: "a handler uses a parameter or local from outside it, or `this` or `super`: make it a global",
     },
     Note {
         begins: "refused 11 ",
         ends: "",
-        says: "a type doesn't fit, the number of arguments is another, a `const` is set, `super(..)` is missing or stands elsewhere: see what type the place takes: for a test write a comparison",
+        says: "a type doesn't fit, `[]` stands where no type is given, the number of arguments is another, a `const` is set, `super(..)` is missing or stands elsewhere: see what type the place takes: for a test write a comparison",
     },
     Note {
         begins: "refused 12 ",
@@ -157,7 +157,7 @@ pub const NOTES: [Note; 54] = [
     Note {
         begins: "refused 15 ",
         ends: "",
-        says: "a limit is passed: divide a long function in two; write a drawing as data",
+        says: "a limit is passed (the place doesn't tell where): a function is too long (divide it in two), or the whole text (write a drawing as data), or there are more than 8 parameters with `this`, 64 locals, 256 globals, 64 classes, or 30 fields or 30 methods of a class, or too much text in quotes: see \"Limits\" in docs/LANGUAGE.md",
     },
     Note {
         begins: "script refused 1",
@@ -167,7 +167,7 @@ pub const NOTES: [Note; 54] = [
     Note {
         begins: "script refused 2",
         ends: "",
-        says: "the script: the JSON hasn't the form of docs/FORMATS.md",
+        says: "the script: the JSON hasn't the form of docs/FORMATS.md, but for the order of time and the number of entries",
     },
     Note {
         begins: "script refused 3",
@@ -267,7 +267,7 @@ pub const NOTES: [Note; 54] = [
     Note {
         begins: "missing",
         ends: "",
-        says: "there is no such file",
+        says: "there is no such file: look for each that is named from the folder where you type (`ls`)",
     },
     Note {
         begins: "too long",

@@ -33,7 +33,7 @@ static MARKS_1: [Row; 8] = [
     Row {
         at: &[Is(")")],
         inside: Unclosed(b'{'),
-        sentence: "A `{` isn't closed: a `}` is missing before this `)`.",
+        sentence: "A `{` isn't closed: a `}` is missing before this `)`. The first line that stands less far in than it should shows where.",
         example: "basic.forever(function () { basic.pause(1) })",
         ..ANYWHERE
     },

@@ -88,19 +88,19 @@ static NAMES_2: [Row; 9] = [
     },
     Row {
         at: &[Is("Math"), Is("."), Is("random")],
-        sentence: "`Math` has no `random`: nothing is by chance, so that a run can be told beforehand.",
+        sentence: "`Math` has no `random`: nothing is by chance, so that a run can be told beforehand. Step a seed on, and take `(seed >> 16) % 6` of it; the low bits alone repeat.",
         example: "seed = (seed * 1103515245 + 12345) & 0x7fffffff",
         ..ANYWHERE
     },
     Row {
         at: &[Is("Math"), Is("."), Is("randomRange")],
-        sentence: "`Math` has no `randomRange`: nothing is by chance, so that a run can be told beforehand.",
+        sentence: "`Math` has no `randomRange`: nothing is by chance, so that a run can be told beforehand. Step a seed on, and take `(seed >> 16) % 6` of it; the low bits alone repeat.",
         example: "seed = (seed * 1103515245 + 12345) & 0x7fffffff",
         ..ANYWHERE
     },
     Row {
         at: &[Is("randint")],
-        sentence: "There is no `randint`: nothing is by chance, so that a run can be told beforehand.",
+        sentence: "There is no `randint`: nothing is by chance, so that a run can be told beforehand. Step a seed on, and take `(seed >> 16) % 6` of it; the low bits alone repeat.",
         example: "seed = (seed * 1103515245 + 12345) & 0x7fffffff",
         ..ANYWHERE
     },
@@ -668,7 +668,7 @@ pub fn names_11() -> &'static [Row] {
     &NAMES_11
 }
 
-static NAMES_11: [Row; 10] = [
+static NAMES_11: [Row; 9] = [
     Row {
         at: &[Name, Is("."), Is("charAt")],
         sentence: "A text is shown and written as a whole: its letters can't be asked.",
@@ -704,13 +704,6 @@ static NAMES_11: [Row; 10] = [
         ..ANYWHERE
     },
     Row {
-        alone: true,
-        at: &[Name, Is("=")],
-        sentence: "A name is declared by `let` before it is set; see also upper and lower case.",
-        example: "let x = 5",
-        ..ANYWHERE
-    },
-    Row {
         at: &[Name, Is("=")],
         sentence: "A name is declared by `let` before it is set; in a method a field is `this.x`; see also upper and lower case.",
         example: "let x = 5",
@@ -730,7 +723,7 @@ static NAMES_11: [Row; 10] = [
     },
     Row {
         at: &[Name],
-        sentence: "No name is known that is written so: see upper and lower case, and declare it by `let`, in this block or outside.",
+        sentence: "No name is known that is written so: see upper and lower case, and declare it by `let`, in this block or outside; in a method a field is `this.x`.",
         example: "let x = 5",
         ..ANYWHERE
     },

@@ -113,7 +113,7 @@ pub fn handlers_1() -> &'static [Row] {
     &HANDLERS_1
 }
 
-static HANDLERS_1: [Row; 8] = [
+static HANDLERS_1: [Row; 10] = [
     Row {
         before: &[Is("basic"), Is("."), Is("forever"), Is("(")],
         sentence: "`basic.forever` takes a handler: a function without parameters that gives no value.",
@@ -189,14 +189,6 @@ static HANDLERS_1: [Row; 8] = [
         example: "control.inBackground(function () { })",
         ..ANYWHERE
     },
-];
-
-/// Code 13: functions and handlers, part 2.
-pub fn handlers_2() -> &'static [Row] {
-    &HANDLERS_2
-}
-
-static HANDLERS_2: [Row; 8] = [
     Row {
         at: &[Is("input"), Is("."), Is("onButtonPressed"), Is("(")],
         sentence: "`input.onButtonPressed` takes a button and a handler: a function without parameters that gives no value.",
@@ -205,8 +197,22 @@ static HANDLERS_2: [Row; 8] = [
     },
     Row {
         at: &[Is("control"), Is("."), Is("onEvent"), Is("(")],
-        sentence: "`control.onEvent` takes two numbers and a handler: a function without parameters that gives no value.",
-        example: "control.onEvent(50, 1, function () { })",
+        sentence: "`control.onEvent` takes a source, a value and a handler: a function without parameters that gives no value. What came is told by `control.eventValue()`.",
+        example: "control.onEvent(200, 0, function () { serial.writeNumber(control.eventValue()) })",
+        ..ANYWHERE
+    },
+];
+
+/// Code 13: functions and handlers, part 2.
+pub fn handlers_2() -> &'static [Row] {
+    &HANDLERS_2
+}
+
+static HANDLERS_2: [Row; 9] = [
+    Row {
+        at: &[Is("control"), Is("."), Is("onEventFlags"), Is("(")],
+        sentence: "`control.onEventFlags` takes a source, a value, a handler and flags. A handler is a function without parameters that gives no value: what came is told by `control.eventValue()`.",
+        example: "control.onEventFlags(50, 1, function () { }, EventFlags.DropIfBusy)",
         ..ANYWHERE
     },
     Row {
@@ -225,6 +231,20 @@ static HANDLERS_2: [Row; 8] = [
         at: &[Name, Is("."), Name],
         sentence: "A call has parentheses behind its name, also where it is given nothing.",
         example: "basic.clearScreen()",
+        ..ANYWHERE
+    },
+    Row {
+        line: &[Is("control"), Is("."), Is("onEvent"), Is("(")],
+        inside: Bracket(b'('),
+        sentence: "`control.onEvent` takes a source, a value and a handler: a function without parameters that gives no value. What came is told by `control.eventValue()`.",
+        example: "control.onEvent(200, 0, function () { serial.writeNumber(control.eventValue()) })",
+        ..ANYWHERE
+    },
+    Row {
+        line: &[Is("control"), Is("."), Is("onEventFlags"), Is("(")],
+        inside: Bracket(b'('),
+        sentence: "`control.onEventFlags` takes a source, a value, a handler and flags. A handler is a function without parameters that gives no value: what came is told by `control.eventValue()`.",
+        example: "control.onEventFlags(50, 1, function () { }, EventFlags.DropIfBusy)",
         ..ANYWHERE
     },
     Row {

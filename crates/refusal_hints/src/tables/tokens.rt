@@ -137,7 +137,7 @@ pub fn numbers() -> &'static [Row] {
     &NUMBERS
 }
 
-static NUMBERS: [Row; 9] = [
+static NUMBERS: [Row; 10] = [
     Row {
         before: &[Is("pause"), Is("(")],
         at: &[Number, Is(".")],
@@ -180,7 +180,7 @@ static NUMBERS: [Row; 9] = [
     },
     Row {
         at: &[With(b'x')],
-        sentence: "A number that begins with `0x` goes on with digits from `0` to `9` and `A` to `F`.",
+        sentence: "A number that begins with `0x` goes on with digits from `0` to `9` and `A` to `F`, and is at most `0xFFFFFFFF`.",
         example: "let x = 0xFF",
         ..ANYWHERE
     },
@@ -194,6 +194,12 @@ static NUMBERS: [Row; 9] = [
         at: &[With(b'e')],
         sentence: "A number is written with all its digits, without `e`.",
         example: "let x = 1000",
+        ..ANYWHERE
+    },
+    Row {
+        at: &[Number],
+        sentence: "A number is at most 4294967295, and is written without a 0 before it and without letters behind it.",
+        example: "let x = 15",
         ..ANYWHERE
     },
 ];

@@ -335,3 +335,59 @@ static TYPES_5: [Row; 10] = [
         ..ANYWHERE
     },
 ];
+
+/// Code 11: types that don't fit, part 6.
+pub fn types_6() -> &'static [Row] {
+    &TYPES_6
+}
+
+static TYPES_6: [Row; 8] = [
+    Row {
+        at: &[Any, Is("<"), Any, Is("<")],
+        sentence: "Compare twice, with `&&` between.",
+        example: "if (3 < x && x < 9) { }",
+        ..ANYWHERE
+    },
+    Row {
+        at: &[Any, Is("<"), Any, Is("<=")],
+        sentence: "Compare twice, with `&&` between.",
+        example: "if (3 < x && x <= 9) { }",
+        ..ANYWHERE
+    },
+    Row {
+        at: &[Any, Is("<="), Any, Is("<")],
+        sentence: "Compare twice, with `&&` between.",
+        example: "if (3 <= x && x < 9) { }",
+        ..ANYWHERE
+    },
+    Row {
+        at: &[Any, Is("<="), Any, Is("<=")],
+        sentence: "Compare twice, with `&&` between.",
+        example: "if (3 <= x && x <= 9) { }",
+        ..ANYWHERE
+    },
+    Row {
+        at: &[Any, Is(">"), Any, Is(">")],
+        sentence: "Compare twice, with `&&` between.",
+        example: "if (9 > x && x > 3) { }",
+        ..ANYWHERE
+    },
+    Row {
+        at: &[Any, Is(">"), Any, Is(">=")],
+        sentence: "Compare twice, with `&&` between.",
+        example: "if (9 > x && x >= 3) { }",
+        ..ANYWHERE
+    },
+    Row {
+        at: &[Any, Is(">="), Any, Is(">")],
+        sentence: "Compare twice, with `&&` between.",
+        example: "if (9 >= x && x > 3) { }",
+        ..ANYWHERE
+    },
+    Row {
+        at: &[Any, Is(">="), Any, Is(">=")],
+        sentence: "Compare twice, with `&&` between.",
+        example: "if (9 >= x && x >= 3) { }",
+        ..ANYWHERE
+    },
+];
