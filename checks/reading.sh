@@ -1,7 +1,7 @@
 #!/bin/sh
 # docs/READING.md is true of the tree: the definitions that the clauses `headline` and `ends` of sts_main cite, and what these cite in turn, stand in the files of its
 # tables, and in no others, in so many lines as the tables say, give or take a tenth and two lines; so do the types of code that they cite. The parts of its
-# way of two hours have at most 2,500 lines. Lines are those of the definitions with their comments, without imports and empty lines.
+# way of two hours have at most 2,500 lines. Lines are those of the definitions with their comments, without imports, empty lines and lines that name what a module takes.
 # usage: checks/reading.sh                looks whether the document is true
 #        checks/reading.sh FILE..         names what is to be read of these files of definitions, in their order
 #        checks/reading.sh --lines        the files as they are, with the lines to be read
@@ -59,7 +59,7 @@ def divide(crate, module, lines):
             begins.append((first, at, found.group(1) or found.group(2)))
     for number, (first, at, name) in enumerate(begins):
         end = begins[number + 1][0] if number + 1 < len(begins) else len(lines)
-        kept = [it for it in lines[first:end] if it.strip()]
+        kept = [it for it in lines[first:end] if it.strip() and not it.lstrip().startswith("module _")]
         blocks[crate, module, name] = kept
         starts[crate, module, name] = first
         if re.match(r"^\s*(pub )?data ", lines[at]):
