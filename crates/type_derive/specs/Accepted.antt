@@ -9,6 +9,7 @@ use Rattle.sts_scope.specs.declared.kinds.StaticType.{StaticType}
 use Rattle.sts_scope.specs.declared.known.Known.{Known}
 use Rattle.sts_scope.specs.Failures.{Failure, ◌then◌}
 use Rattle.sts_scope.specs.Scopes.{all_names, all_entries, all_classes, library_entries, library_classes, heading_refusal}
+use Rattle.type_derive.specs.Typing.{◌>>=◌}
 use Rattle.type_derive.specs.Derived.{TypeTable, Source, sources_from, rule, IsLeast}
 use Rattle.type_derive.specs.Passes.{all_overrides, nodes_failure}
 use Rattle.type_derive.specs.Limits.{limits_failure}
@@ -39,44 +40,45 @@ pub record AreDerived (tables : Tables) (library text : Program) (kinds : TypeTa
   pub each : length kinds ≡ length (all_entries library text)
   pub least : IsLeast (derivation tables library text) kinds
 
--- the typed program: the library's functions, then those of the text, the main program last
+-- The typed program, where all is there that is looked for: the library's functions, then those of the text, the main program last.
 abbrev pub main_routine : Made e.TypedStatements → e.TypedRoutine
 main_routine made = record { params = []; locals = made.locals; gives = t.Nothing; all = made.it }
 
-abbrev pub typed : Tables → Program → Program → TypeTable → TypedProgram
+abbrev pub typed : Tables → Program → Program → TypeTable → Option TypedProgram
 typed tables library text kinds =
     let names = all_names library text in
     let k = known library text kinds in
     let numbers = numbering (library ++ text) in
-    let first = library_made tables names k numbers 0 0 library in
-    let made = items_made tables names k numbers (library_classes library text) k.library 0 (all_routines library) text
-    in
-    record {
-      classes = class_entries tables names k numbers 0 k.classes;
+    library_made tables names k numbers 0 0 library
+    >>= λ first. items_made tables names k numbers (library_classes library text) k.library 0 (all_routines library) text
+    >>= λ made. class_entries tables names k numbers 0 k.classes
+    >>= λ classes. global_types tables names k numbers 0 k.entries >>= λ globals. Some (record {
+      classes = classes;
       functions = first ++ made.routines ++ main_routine made ∷ [];
-      globals = global_types tables names k numbers 0 k.entries;
+      globals = globals;
       main = length first + length made.routines;
-    }
+    })
 
--- the first failure behind the headings
-abbrev pub type_refusal : Tables → Program → Program → TypeTable → Option Failure
-type_refusal tables library text kinds =
+-- the first failure of headings, overriding methods and nodes
+abbrev pub text_failure : Tables → Program → Program → TypeTable → Option Failure
+text_failure tables library text kinds =
     let names = all_names library text in
     let k = known library text kinds in
     let c = library_classes library text in
-    all_overrides k names c k.library text then nodes_failure tables names k c k.library text
-    then limits_failure tables.texts (typed tables library text kinds)
+    heading_refusal tables.names library text then all_overrides k names c k.library text
+    then nodes_failure tables names k c k.library text
 
--- the first failure of all passes
+-- the first failure of a text: the counted limits are those of its typed program
 abbrev pub refusal : Tables → Program → Program → TypeTable → Option Failure
 refusal tables library text kinds =
-    heading_refusal tables.names library text then type_refusal tables library text kinds
+    text_failure tables library text kinds
+    then (typed tables library text kinds >>= λ p. limits_failure tables.texts p)
 
 -- a text is accepted, as this typed program
 abbrev pub IsAccepted : Tables → Program → Program → TypedProgram → Type 0
 IsAccepted tables library text p =
     (kinds : TypeTable) × AreDerived tables library text kinds
-    × (refusal tables library text kinds ≡ None) × (p ≡ typed tables library text kinds)
+    × (refusal tables library text kinds ≡ None) × (typed tables library text kinds ≡ Some p)
 
 -- a text is refused, with this failure
 abbrev pub IsRefused : Tables → Program → Program → Failure → Type 0

@@ -21,3 +21,4 @@ pub mod Heads
 pub mod Naming
 pub mod Wanted
 pub mod Groups
+pub mod inner

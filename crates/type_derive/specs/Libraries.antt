@@ -50,9 +50,10 @@ pub record IsLibrary (tables : Tables) (library text : Program) (kinds : TypeTab
   pub functions : OnlyFunctions library
   pub formed : IsFormedProgram library
   pub no_failure : library_failure tables (all_names library text) (known library text kinds) 0 library ≡ None
-  -- each row of the board's table that is a function of the library is one of it that takes and gives the same
+  -- its typed functions: each row of the board's table that is a function of the library is one of them that takes and gives the same
+  pub routines : List TypedRoutine
+  pub built : library_made tables (all_names library text) (known library text kinds) (numbering (library ++ text)) 0 0
+      library ≡ Some routines
   pub rows : (call : BoardCall) (f : ℕ) → (row_of call).action ≡ board.Library f
       → (r : TypedRoutine)
-      × (entry (library_made tables (all_names library text) (known library text kinds)
-      (numbering (library ++ text)) 0 0 library) f ≡ Some r)
-      × (r.params ≡ taken (row_of call).takes) × (r.gives ≡ (row_of call).gives)
+      × (entry routines f ≡ Some r) × (r.params ≡ taken (row_of call).takes) × (r.gives ≡ (row_of call).gives)

@@ -1,5 +1,5 @@
 -- Accepted texts, and the limits that their test says.
-use Rattle.std.proofs.Common.{◌≡◌, ℕ, zero, suc, ◌&&◌, sym, subst, Bool, true, Option, List, [], ◌∷◌, length, arith, leb-true}
+use Rattle.std.proofs.Common.{◌≡◌, ℕ, zero, suc, ◌&&◌, sym, ap, ◌∙◌, subst, Bool, true, Option, Some, None, List, [], ◌∷◌, length, arith, leb-true}
 use Rattle.std.specs.Prelude.{All, nat_le}
 use Rattle.std.specs.List.{list_all}
 use Rattle.sts_base.specs.declared.tables.Tables.{Tables}
@@ -11,14 +11,19 @@ use Rattle.sts_syntax.specs.TypedTrees.{TypedRoutine, ClassEntry, TypedProgram}
 use Rattle.sts_syntax.specs.Weights.{weight}
 use Rattle.sts_syntax.specs.WellTypedPrograms.{IsWellTyped, IsWithinLimits, IsClassWithinLimits, IsProgramWithinLimits}
 use Rattle.sts_scope.specs.declared.kinds.StaticType.{StaticType}
-use Rattle.type_derive.specs.Accepted.{AreDerived, IsAccepted, typed}
+use Rattle.type_derive.specs.Accepted.{AreDerived, IsAccepted, typed, text_failure}
+use Rattle.type_derive.specs.inner.FilledTexts.{filled}
+use Rattle.sts_scope.specs.Failures.{Failure}
+use Rattle.type_derive.specs.Limits.{limits_failure}
+use Rattle.type_derive.specs.Typing.{◌>>=◌}
 use Rattle.type_derive.specs.Formed.{IsFormedProgram}
 use Rattle.typed_limits.specs.Limits.{routine_fits, class_fits, program_fits}
 use Rattle.type_derive.specs.Libraries.{IsLibrary}
 use Rattle.typed_laws.proofs.OneNode.{both_true}
-use Rattle.typed_laws.proofs.Typed.{unless_true}
+use Rattle.typed_laws.proofs.Typed.{unless_true, first, last}
 use Rattle.typed_laws.proofs.Rounds.{kinds_proper}
-use Rattle.typed_laws.proofs.TextBehind.{limits_none}
+use Rattle.typed_laws.proofs.BuiltTexts.{texts_built}
+use Rattle.typed_laws.proofs.Names.{some_is}
 use Rattle.typed_laws.proofs.Whole.{well_typed}
 
 all_of : {A : Type 0} (Q : A → Type 0) (test : A → Bool) (xs : List A) → ((x : A) → test x ≡ true → Q x) → list_all test xs ≡ true → All Q xs
@@ -65,8 +70,12 @@ pub accepted : (tables : Tables) (library text : Program) (P : TypedProgram) →
     → IsAccepted tables library text P → IsWellTyped P × IsProgramWithinLimits P tables.texts
 accepted tables library text P formed libraries (kinds, derived, no_failure, is) =
     let ok : IsLibrary tables library text kinds = libraries kinds derived in
-    let T : TypedProgram = typed tables library text kinds in
+    let T : TypedProgram = filled tables library text kinds in
+    let limits : Option TypedProgram → Option Failure = λ z. z >>= λ p. limits_failure tables.texts p in
+    let none : text_failure tables library text kinds ≡ None = first (text_failure tables library text kinds) (limits (typed tables library text kinds)) no_failure in
+    let built : typed tables library text kinds ≡ Some T = texts_built tables library text kinds derived ok none in
+    let limits_none : limits_failure tables.texts T ≡ None = sym (ap limits built) ∙ last (text_failure tables library text kinds) (limits (typed tables library text kinds)) no_failure in
     let proper_so = kinds_proper tables library text kinds derived in
-    let sound : IsWellTyped T = well_typed tables library text kinds derived ok formed no_failure proper_so in
-    let within_so : IsProgramWithinLimits T tables.texts = program_within T tables.texts (unless_true (program_fits tables.texts T) OverLimit 0 (limits_none tables library text kinds ok.functions no_failure)) in
-    subst (λ (p : TypedProgram). IsWellTyped p × IsProgramWithinLimits p tables.texts) (sym is) (sound, within_so)
+    let sound : IsWellTyped T = well_typed tables library text kinds derived ok formed none proper_so in
+    let within_so : IsProgramWithinLimits T tables.texts = program_within T tables.texts (unless_true (program_fits tables.texts T) OverLimit 0 limits_none) in
+    subst (λ (p : TypedProgram). IsWellTyped p × IsProgramWithinLimits p tables.texts) (some_is T P (sym built ∙ is)) (sound, within_so)

@@ -28,7 +28,7 @@ use Rattle.sts_scope.specs.Rules.{kind_at, takes_at, maker_takes_of, class_part,
 use Rattle.type_derive.specs.Typing.{method_of}
 use Rattle.type_derive.specs.Passes.{same_kinds, same_result, agrees}
 use Rattle.sts_scope.specs.Numbers.{Numbering, is_method, is_listed, own_names, names_from, field_names, slot_names, place_among, global_number, routine_number, maker_number}
-use Rattle.type_derive.specs.Programs.{class_result, member_kind, member_routine, class_entry, class_entries, global_types}
+use Rattle.type_derive.specs.inner.FilledPrograms.{class_result, member_kind, member_routine, class_entry, class_entries, global_types}
 use Rattle.typed_laws.specs.Stands.{IsProper, EachProper, Stands}
 use Rattle.type_derive.specs.Libraries.{taken}
 use Rattle.typed_laws.proofs.OneNode.{both_true, same_types}

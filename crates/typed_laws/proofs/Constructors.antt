@@ -37,10 +37,12 @@ use Rattle.type_derive.specs.Nodes.{failures, statements_failure, initial_failur
 use Rattle.type_derive.specs.Passes.{field_failure, body_failure, made_failure, own_super_call, constructor_failure, members_nodes}
 use Rattle.type_derive.specs.Formed.{AreFormedMembers, AreFormedIn}
 use Rattle.sts_scope.specs.Handlers.{handlers_of, routine_handlers, declared_handlers, statements_handlers, members_routines, unwritten}
-use Rattle.type_derive.specs.Making.{pure, ◌>=>◌}
+use Rattle.type_derive.specs.inner.Filling.{pure, ◌>=>◌}
 use Rattle.sts_scope.specs.Numbers.{Numbering, field_names, slot_names, place_among, member_numbers, maker_number, maker_from, routine_number}
-use Rattle.type_derive.specs.Built.{Site, made_given, made_statements}
-use Rattle.type_derive.specs.Programs.{site, method_made, initial_made, set_field, initials, super_called, passed_on, passes_on, made_statements_of, constructor_made, constructor_unwritten, unwritten_made, members_made, class_made, class_entry, ◌before◌}
+use Rattle.type_derive.specs.Built.{Site}
+use Rattle.type_derive.specs.inner.Filled.{made_given, made_statements}
+use Rattle.type_derive.specs.Programs.{passed_on, ◌before◌}
+use Rattle.type_derive.specs.inner.FilledPrograms.{site, method_made, initial_made, set_field, initials, super_called, passes_on, made_statements_of, constructor_made, constructor_unwritten, unwritten_made, members_made, class_made, class_entry}
 use Rattle.typed_laws.specs.Stands.{IsProper}
 use Rattle.typed_laws.proofs.Typed.{last, first, unless_true}
 use Rattle.typed_laws.proofs.Names.{some_is}

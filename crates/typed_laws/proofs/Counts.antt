@@ -29,9 +29,11 @@ use Rattle.type_derive.specs.Typing.{Callee, space, constant_of, board_callee, c
 use Rattle.type_derive.specs.Returns.{is_alone, bound, after, after_first, looped, items_of}
 use Rattle.type_derive.specs.Nodes.{failure, failures, handler_failure, own_member, own_called, own_super, own_board, is_called, is_served, serves_itself, kind_role, initial_failure, optional_failure, test_failure, declaration_failure, declarations_failure, statement_failure, first_failure, statements_failure, own_local, own_bound, is_list}
 use Rattle.sts_scope.specs.Handlers.{handlers, handlers_of, optional_handlers, declarations_handlers, statement_handlers, first_handlers, statements_handlers}
-use Rattle.type_derive.specs.Making.{Made, Making, pure, ◌>=>◌, a_local}
+use Rattle.type_derive.specs.Making.{Made}
+use Rattle.type_derive.specs.inner.Filling.{Making, pure, ◌>=>◌, a_local}
 use Rattle.sts_scope.specs.Numbers.{Numbering, routine_number}
-use Rattle.type_derive.specs.Built.{Site, in_block, amiss, made_tree, made_given, made_items, made_asked, made_call, made_first, made_optional, made_value, made_locals, made_local, made_statement, made_opening, made_statements, noted, type_in, part_in, class_in, member_read, part_target, routine_of, class_found, call_takes, board_target, asked_given, drawing, argument_made, next_given, later_given, behind_statement, first_site, in_handler_site, kind_or_nothing}
+use Rattle.type_derive.specs.Built.{Site, in_block, board_target}
+use Rattle.type_derive.specs.inner.Filled.{amiss, made_tree, made_given, made_items, made_asked, made_call, made_first, made_optional, made_value, made_locals, made_local, made_statement, made_opening, made_statements, noted, type_in, part_in, class_in, member_read, part_target, routine_of, class_found, call_takes, asked_given, drawing, argument_made, next_given, later_given, behind_statement, first_site, in_handler_site, kind_or_nothing}
 use Rattle.typed_laws.specs.Laws.{IsRead}
 use Rattle.typed_laws.proofs.OneNode.{both_true}
 use Rattle.typed_laws.proofs.Typed.{last, first, unless_true}

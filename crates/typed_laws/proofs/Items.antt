@@ -25,10 +25,12 @@ use Rattle.type_derive.specs.Derived.{item_sources, main_sources, member_sources
 use Rattle.type_derive.specs.Nodes.{failures, statements_failure, initial_failure, own_bound}
 use Rattle.type_derive.specs.Passes.{field_failure, globals_failure, main_failure, body_failure, made_failure, own_super_call, constructor_failure, members_nodes}
 use Rattle.sts_scope.specs.Handlers.{handlers_of, optional_handlers, routine_handlers, declared_handlers, declarations_handlers, statement_handlers, statements_handlers, members_routines, unwritten}
-use Rattle.type_derive.specs.Making.{pure, ◌>=>◌}
+use Rattle.type_derive.specs.inner.Filling.{pure, ◌>=>◌}
 use Rattle.sts_scope.specs.Numbers.{Numbering, global_number, item_numbers, main_numbers, member_numbers, global_places}
-use Rattle.type_derive.specs.Built.{Site, made_given, made_first, made_statements}
-use Rattle.type_derive.specs.Programs.{site, function_made, method_made, initial_made, initials, made_statements_of, constructor_made, unwritten_made, members_made, class_made, global_made, globals_made, main_made, super_called, ◌before◌}
+use Rattle.type_derive.specs.Built.{Site}
+use Rattle.type_derive.specs.inner.Filled.{made_given, made_first, made_statements}
+use Rattle.type_derive.specs.Programs.{◌before◌}
+use Rattle.type_derive.specs.inner.FilledPrograms.{site, function_made, method_made, initial_made, initials, made_statements_of, constructor_made, unwritten_made, members_made, class_made, global_made, globals_made, main_made, super_called}
 use Rattle.typed_laws.proofs.Typed.{last, first}
 use Rattle.typed_laws.proofs.Counts.{Counts, counts_bind, counts_one, counts_two, given_counts, initial_counts, statement_counts, statements_counts}
 

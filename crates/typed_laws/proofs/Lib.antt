@@ -4,6 +4,9 @@ pub mod OneNode
 pub mod Makings
 pub mod Names
 mod WholeNodes
+mod FilledParts
+mod Agreeing
+mod BuiltTrees
 mod FailsFor
 pub mod Sites
 pub mod Boards
@@ -29,6 +32,8 @@ pub mod TextBehind
 pub mod Parts
 pub mod Whole
 mod WholePrograms
+mod BuiltPrograms
+mod BuiltTexts
 pub mod OwnFunctions
 pub mod Rounds
 pub mod Accepting

@@ -20,10 +20,12 @@ use Rattle.sts_scope.specs.Rules.{kind_at}
 use Rattle.type_derive.specs.Returns.{within, bound}
 use Rattle.sts_syntax.specs.declared.typed.Spot.{Spot}
 use Rattle.type_derive.specs.Typing.{space_of, space, own_call, board_callee, ◌>>=◌}
-use Rattle.type_derive.specs.Making.{Made, ◌>=>◌}
-use Rattle.type_derive.specs.Built.{Site, behind_statement, routine, made_tree, made_asked, made_statement, made_statements, made_locals, made_local, made_first}
+use Rattle.type_derive.specs.Making.{Made}
+use Rattle.type_derive.specs.inner.Filling.{◌>=>◌}
+use Rattle.type_derive.specs.Built.{Site}
+use Rattle.type_derive.specs.inner.Filled.{behind_statement, routine, made_tree, made_asked, made_statement, made_statements, made_locals, made_local, made_first}
 use Rattle.sts_scope.specs.Numbers.{Numbering, numbering}
-use Rattle.type_derive.specs.Programs.{site, class_result, library_made}
+use Rattle.type_derive.specs.inner.FilledPrograms.{site, class_result, library_made}
 use Rattle.type_derive.specs.Accepted.{AreDerived}
 use Rattle.type_derive.specs.Libraries.{taken}
 use Rattle.sts_prelude.specs.inner.Library as l

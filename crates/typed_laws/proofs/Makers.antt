@@ -17,7 +17,7 @@ use Rattle.sts_scope.specs.Rules as rules
 use Rattle.type_derive.specs.Passes.{field_failure, body_failure, members_nodes, item_nodes, nodes_failure}
 use Rattle.sts_scope.specs.Handlers.{routine_handlers, declared_handlers, statement_handlers, members_routines, unwritten, item_routines}
 use Rattle.sts_scope.specs.Numbers.{Numbering, maker_from, makers_from}
-use Rattle.type_derive.specs.Programs.{function_made, method_made, initial_made, initials, constructor_made, unwritten_made, members_made, class_made, main_made, items_made}
+use Rattle.type_derive.specs.inner.FilledPrograms.{function_made, method_made, initial_made, initials, constructor_made, unwritten_made, members_made, class_made, main_made, items_made}
 use Rattle.typed_laws.proofs.Typed.{last, first}
 use Rattle.typed_laws.proofs.Makings.{Placed, placed_left}
 use Rattle.typed_laws.proofs.Suffixes.{Suffix, suffix_step, suffix_at, suffix_head}

@@ -5,7 +5,8 @@ use Rattle.sts_syntax.specs.TypedTrees.{TypedRoutine, TypedProgram}
 use Rattle.sts_syntax.specs.TypeRules.{entry, HasRoutine}
 use Rattle.sts_syntax.specs.WellTyped.{Setting, AreSound}
 use Rattle.sts_syntax.specs.WellTypedPrograms.{all_declared, numbers}
-use Rattle.type_derive.specs.Making.{Made, Making, pure, ◌>=>◌, a_local}
+use Rattle.type_derive.specs.Making.{Made}
+use Rattle.type_derive.specs.inner.Filling.{Making, pure, ◌>=>◌, a_local}
 
 pub numbers_more : (m a c : ℕ) → numbers m (a + c) ≡ numbers m a ++ numbers (m + a) c
 numbers_more m zero c = let p : zero + c ≡ c = omega arith in let q : m ≡ m + zero = omega arith in ap (λ (n : ℕ). numbers m n) p ∙ ap (λ (n : ℕ). numbers n c) q

@@ -23,7 +23,7 @@ use Rattle.sts_scope.specs.Rules.{kind_at}
 use Rattle.type_derive.specs.Passes.{field_failure, body_failure, constructor_failure, members_nodes, item_nodes, nodes_failure}
 use Rattle.sts_scope.specs.Handlers.{routine_handlers, declared_handlers, unwritten, item_routines}
 use Rattle.sts_scope.specs.Numbers.{Numbering, member_numbers, global_places, main_numbers, item_numbers, numbers_from}
-use Rattle.type_derive.specs.Programs.{function_made, method_made, initial_made, initials, constructor_made, unwritten_made, members_made, class_made, main_made, items_made}
+use Rattle.type_derive.specs.inner.FilledPrograms.{function_made, method_made, initial_made, initials, constructor_made, unwritten_made, members_made, class_made, main_made, items_made}
 use Rattle.typed_laws.proofs.Typed.{last, first}
 use Rattle.typed_laws.proofs.Makings.{Placed, placed_left, placed_right}
 use Rattle.typed_laws.proofs.Items.{function_counts, method_counts, field_counts, constructor_counts, unwritten_counts, class_counts, main_counts}

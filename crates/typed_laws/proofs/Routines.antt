@@ -26,8 +26,10 @@ use Rattle.type_derive.specs.Nodes.{statements_failure}
 use Rattle.sts_scope.specs.Handlers.{statements_handlers}
 use Rattle.type_derive.specs.Formed.{AreFormedIn}
 use Rattle.sts_scope.specs.Numbers.{Numbering, maker_number}
-use Rattle.type_derive.specs.Built.{Site, made_statements}
-use Rattle.type_derive.specs.Programs.{site, parameter_spots, class_entries}
+use Rattle.type_derive.specs.Built.{Site}
+use Rattle.type_derive.specs.inner.Filled.{made_statements}
+use Rattle.type_derive.specs.Programs.{parameter_spots}
+use Rattle.type_derive.specs.inner.FilledPrograms.{site, class_entries}
 use Rattle.typed_laws.specs.Stands.{IsProper, Stands}
 use Rattle.typed_laws.proofs.OneNode.{test_false}
 use Rattle.typed_laws.proofs.TreeFacts.{written_proper}

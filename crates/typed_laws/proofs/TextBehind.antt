@@ -18,10 +18,9 @@ use Rattle.sts_scope.specs.Globals.{names_failure}
 use Rattle.sts_scope.specs.Headings.{headings_failure}
 use Rattle.sts_scope.specs.Rules.{kind_at}
 use Rattle.sts_scope.specs.Scopes.{all_names, library_classes, heading_refusal}
-use Rattle.type_derive.specs.Accepted.{known, all_sources, AreDerived, typed, type_refusal, refusal}
+use Rattle.type_derive.specs.Accepted.{known, all_sources, AreDerived, text_failure}
 use Rattle.type_derive.specs.Derived.{Source, item_sources, sources_from, follows, at}
 use Rattle.type_derive.specs.Libraries.{OnlyFunctions}
-use Rattle.type_derive.specs.Limits.{limits_failure}
 use Rattle.type_derive.specs.Passes.{all_overrides, nodes_failure}
 use Rattle.typed_laws.proofs.DeclaredTypes.{TypedAs, typed_text}
 use Rattle.typed_laws.proofs.Facts.{EachIs, each_is_both, each_is_get, sane_text, AgreesAs, agree_text, bases_within, all_chains_end}
@@ -107,7 +106,7 @@ module _ (tables : Tables) (library text : Program) (kinds : List (Option Static
       solved_at d source h ∙ ap (λ (b : Bool). follows (all_names library text) tables k b source) (not_library d k.library near)
 
 -- where nothing fails
-module _ (tables : Tables) (library text : Program) (kinds : List (Option StaticType)) (functions : OnlyFunctions library) (no_failure : refusal tables library text kinds ≡ None) where
+module _ (tables : Tables) (library text : Program) (kinds : List (Option StaticType)) (functions : OnlyFunctions library) (no_failure : text_failure tables library text kinds ≡ None) where
   abbrev names : Naming
   names = all_names library text
 
@@ -139,14 +138,11 @@ module _ (tables : Tables) (library text : Program) (kinds : List (Option Static
   abbrev pass_nodes : Option Failure
   pass_nodes = nodes_failure tables names k c0 k.library text
 
-  abbrev pass_limits : Option Failure
-  pass_limits = limits_failure tables.texts (typed tables library text kinds)
-
   headings_none : heading_refusal tables.names library text ≡ None
-  headings_none = first (heading_refusal tables.names library text) (type_refusal tables library text kinds) no_failure
+  headings_none = first (heading_refusal tables.names library text) (pass_overrides then pass_nodes) no_failure
 
-  types_none : type_refusal tables library text kinds ≡ None
-  types_none = last (heading_refusal tables.names library text) (type_refusal tables library text kinds) no_failure
+  types_none : (pass_overrides then pass_nodes) ≡ None
+  types_none = last (heading_refusal tables.names library text) (pass_overrides then pass_nodes) no_failure
 
   pub chains_none : pass_chains ≡ None
   chains_none = first pass_chains pass_headings (last pass_bases (pass_chains then pass_headings) (last pass_names (pass_bases then pass_chains then pass_headings) headings_none))
@@ -155,13 +151,10 @@ module _ (tables : Tables) (library text : Program) (kinds : List (Option Static
   heads_none = last pass_chains pass_headings (last pass_bases (pass_chains then pass_headings) (last pass_names (pass_bases then pass_chains then pass_headings) headings_none))
 
   pub overrides_none : pass_overrides ≡ None
-  overrides_none = first pass_overrides (pass_nodes then pass_limits) types_none
+  overrides_none = first pass_overrides pass_nodes types_none
 
   pub nodes_none : pass_nodes ≡ None
-  nodes_none = first pass_nodes pass_limits (last pass_overrides (pass_nodes then pass_limits) types_none)
-
-  pub limits_none : pass_limits ≡ None
-  limits_none = last pass_nodes pass_limits (last pass_overrides (pass_nodes then pass_limits) types_none)
+  nodes_none = last pass_overrides pass_nodes types_none
 
   -- the declarations of the text stand behind those of the library
   abbrev pub text_entries : Suffix k.entries k.library (entries_from names c0 text)

@@ -25,9 +25,11 @@ use Rattle.sts_scope.specs.Rules.{takes_at, maker_takes_of}
 use Rattle.type_derive.specs.declared.roles.Role.TheVariants.{Free}
 use Rattle.type_derive.specs.Typing.{finds, constant_of, board_callee, super_method, type_of, behind, drawn, draws, text_at}
 use Rattle.type_derive.specs.Returns.{bound, looped, items_of}
-use Rattle.type_derive.specs.Making.{Made, Making, pure, ◌>=>◌, a_local}
+use Rattle.type_derive.specs.Making.{Made}
+use Rattle.type_derive.specs.inner.Filling.{Making, pure, ◌>=>◌, a_local}
 use Rattle.sts_scope.specs.Numbers.{Numbering, routine_number}
-use Rattle.type_derive.specs.Built.{Site, in_block, amiss, next_given, later_given, asked_given, board_target, kind_or_nothing, noted, type_in, part_in, class_in, member_read, spot_of, part_target, routine_of, class_found, in_handler_site, behind_statement, first_site, call_takes, routine, plain_handler, drawing, frame_of, argument_made, made_tree, made_call, made_given, made_items, made_asked, made_body, made_first, made_optional, made_value, made_locals, made_local, made_statement, made_opening, made_statements}
+use Rattle.type_derive.specs.Built.{Site, in_block, board_target, frame_of}
+use Rattle.type_derive.specs.inner.Filled.{amiss, next_given, later_given, asked_given, kind_or_nothing, noted, type_in, part_in, class_in, member_read, spot_of, part_target, routine_of, class_found, in_handler_site, behind_statement, first_site, call_takes, routine, plain_handler, drawing, argument_made, made_tree, made_call, made_given, made_items, made_asked, made_body, made_first, made_optional, made_value, made_locals, made_local, made_statement, made_opening, made_statements}
 use Rattle.type_derive.specs.Formed.{TreeHas, TreesHave, OptionHas, BodyHas, DeclarationHas, DeclarationsHave, StatementHas, FirstHas, StatementsHave}
 
 abbrev pub Whatever : ℤ → Type 0

@@ -38,9 +38,10 @@ use Rattle.type_derive.specs.Typing.{◌>>=◌, Callee, callee, names_function, 
 use Rattle.type_derive.specs.Returns.{declared, all_declared, after, after_first}
 use Rattle.type_derive.specs.Nodes.{kind_role, is_called, failure, failures, is_list, own_name, own_member, own_called, own_board, fits}
 use Rattle.sts_scope.specs.Handlers.{handlers, handlers_of}
-use Rattle.type_derive.specs.Making.{Making, pure, ◌>=>◌, a_local}
+use Rattle.type_derive.specs.inner.Filling.{Making, pure, ◌>=>◌, a_local}
 use Rattle.sts_scope.specs.Numbers.{Numbering, field_names, slot_names, place_among, routine_number}
-use Rattle.type_derive.specs.Built.{Site, amiss, spots_from, in_handler_site, first_site, made_tree, made_given, made_asked, made_call, type_in, part_in, class_in, member_read, part_target, part_takes, routine_of, routine_takes, class_found, call_takes, board_target, drawing, frame_of}
+use Rattle.type_derive.specs.Built.{Site, spots_from, board_target, frame_of}
+use Rattle.type_derive.specs.inner.Filled.{amiss, in_handler_site, first_site, made_tree, made_given, made_asked, made_call, type_in, part_in, class_in, member_read, part_target, part_takes, routine_of, routine_takes, class_found, call_takes, drawing}
 use Rattle.type_derive.specs.Formed.{IsFormed, AreFormed}
 use Rattle.typed_laws.specs.Stands.{IsProper, EachProper, Stands}
 use Rattle.type_derive.specs.Libraries.{taken}

@@ -37,9 +37,10 @@ use Rattle.typed_laws.proofs.Returning.{give_value, gives_value}
 use Rattle.type_derive.specs.Returns.{is_alone, bound, all_declared, after, items_of, looped}
 use Rattle.type_derive.specs.Nodes.{kind_role, failure, failures, handler_failure, is_list, initial_failure, optional_failure, test_failure, declaration_failure, declarations_failure, statement_failure, first_failure, statements_failure, own_local, own_bound, own_called, own_super, own_make, fits}
 use Rattle.sts_scope.specs.Handlers.{handlers, handlers_of, optional_handlers, declarations_handlers, statement_handlers, first_handlers, statements_handlers}
-use Rattle.type_derive.specs.Making.{Making, pure, ◌>=>◌, a_local}
+use Rattle.type_derive.specs.inner.Filling.{Making, pure, ◌>=>◌, a_local}
 use Rattle.sts_scope.specs.Numbers.{Numbering}
-use Rattle.type_derive.specs.Built.{Site, in_block, spots_from, in_handler_site, behind_statement, first_site, made_first, made_optional, made_value, made_locals, made_local, made_statement, made_opening, made_statements, made_tree, made_given, made_items, made_asked, noted, type_in, part_in, class_in, part_target, part_takes, routine_of, routine_takes, class_found, spot_of, plain_handler, drawing, argument_made}
+use Rattle.type_derive.specs.Built.{Site, in_block, spots_from}
+use Rattle.type_derive.specs.inner.Filled.{in_handler_site, behind_statement, first_site, made_first, made_optional, made_value, made_locals, made_local, made_statement, made_opening, made_statements, made_tree, made_given, made_items, made_asked, noted, type_in, part_in, class_in, part_target, part_takes, routine_of, routine_takes, class_found, spot_of, plain_handler, drawing, argument_made}
 use Rattle.type_derive.specs.Formed.{IsFormed, AreFormed, MayBeFormed, AreFormedDeclarations, IsFormedIn, IsFormedFirst, AreFormedIn}
 use Rattle.typed_laws.specs.Stands.{is_proper_base, IsProper, EachProper, Stands}
 use Rattle.typed_laws.proofs.OneNode.{both_true, same_is, works, prefixes, joins, chooses, counts, elements, array_type, arrayed}

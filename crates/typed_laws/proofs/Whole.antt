@@ -28,10 +28,12 @@ use Rattle.type_derive.specs.Formed.{IsFormedProgram}
 use Rattle.sts_scope.specs.Handlers.{statements_handlers, item_routines, all_routines}
 use Rattle.type_derive.specs.Making.{Made as Made'}
 use Rattle.sts_scope.specs.Numbers.{Numbering, numbering, numbers_from, makers_from, item_numbers}
-use Rattle.type_derive.specs.Programs.{function_made, class_made, main_made, items_made, library_made}
-use Rattle.type_derive.specs.Accepted.{known, all_sources, AreDerived, main_routine, typed, refusal}
+use Rattle.type_derive.specs.inner.FilledPrograms.{function_made, class_made, main_made, items_made, library_made}
+use Rattle.type_derive.specs.Accepted.{known, all_sources, AreDerived, main_routine, text_failure}
+use Rattle.type_derive.specs.inner.FilledTexts.{filled}
 use Rattle.typed_laws.specs.Stands.{IsProper}
 use Rattle.type_derive.specs.Libraries.{OnlyFunctions, library_failure, IsLibrary}
+use Rattle.typed_laws.proofs.BuiltPrograms.{library_so}
 use Rattle.typed_laws.proofs.Typed.{last, first}
 use Rattle.typed_laws.proofs.Makings.{Placed, placed_left, placed_right, kept_all}
 use Rattle.typed_laws.proofs.Suffixes.{Suffix, suffix_all, suffix_step, suffix_at}
@@ -197,7 +199,7 @@ module _ (tables : Tables) (names : Naming) (k : Known) (numbers : Numbering) wh
 
 -- what the least table of types says of one declaration
 module _ (tables : Tables) (library text : Program) (kinds : List (Option StaticType)) (derived : AreDerived tables library text kinds) where
-  module _ (ok : IsLibrary tables library text kinds) (formed : IsFormedProgram text) (no_failure : refusal tables library text kinds ≡ None)
+  module _ (ok : IsLibrary tables library text kinds) (formed : IsFormedProgram text) (no_failure : text_failure tables library text kinds ≡ None)
       (proper : (d : ℕ) (u : StaticType) → kind_at (known library text kinds) d ≡ Some u → IsProper u) where
     abbrev names : Naming
     names = all_names library text
@@ -209,7 +211,7 @@ module _ (tables : Tables) (library text : Program) (kinds : List (Option Static
     numbers = numbering (library ++ text)
 
     abbrev P : TypedProgram
-    P = typed tables library text kinds
+    P = filled tables library text kinds
 
     abbrev c0 : ℕ
     c0 = library_classes library text
@@ -331,7 +333,11 @@ module _ (tables : Tables) (library text : Program) (kinds : List (Option Static
       results = λ d a h s.
           let other : a.sort ≡ sort.Function → ⊥ = λ f. let z : sort.Function ≡ sort.Method = sym f ∙ s in cc in
           subst (λ (y : DeclarationKind). TypedAs names k tables y a.owner a.name d) s (of_text.typed_other tables library text kinds ok.functions no_failure derived d a h other);
-      rows = λ call f q. let (r, has, params, gives) = ok.rows call f q in (r, entry_left (front ++ back.routines) (own_main ∷ []) f r (entry_left front back.routines f r has), params, gives);
+      rows = λ call f q.
+          let (r, has, params, gives) = ok.rows call f q in
+          let same : ok.routines ≡ front = library_so tables names k numbers 0 0 library ok.routines ok.functions ok.no_failure ok.built in
+          let has' : entry front f ≡ Some r = sym (ap (λ (xs : List TypedRoutine). entry xs f) same) ∙ has in
+          (r, entry_left (front ++ back.routines) (own_main ∷ []) f r (entry_left front back.routines f r has'), params, gives);
       kinds_proper = proper;
       takes_proper = λ d. takes_proper names 0 d (library ++ text);
       makers_proper = λ c. makers_proper names (library ++ text) c;

@@ -19,7 +19,6 @@ use Rattle.sts_scope.specs.Failures.{◌then◌, unless, own}
 use Rattle.sts_scope.specs.Globals.{is_dollar}
 use Rattle.sts_scope.specs.Headings.{written_failure, type_name_failure}
 use Rattle.sts_scope.specs.Kinds.{number, item, object}
-use Rattle.sts_scope.specs.Numbers.{Numbering}
 use Rattle.sts_scope.specs.Places.{NameScope, inner}
 use Rattle.sts_scope.specs.Rules.{name_kind, kind_at, takes_at, maker_takes_of, part_of, part_kind, all_go}
 use Rattle.type_derive.specs.declared.roles.Role.{Role}
@@ -213,20 +212,20 @@ module _ (tables : Tables) (names : Naming) (k : Known) where
       let b = length-append p.locals (record { name = x; kind = bound tables names k p shape first'; fixed = fixed } ∷ []) in
       omega (arith, a, b)
 
-  pub statement_spots : (numbers : Numbering) (m : ℕ) (s : Site) (a : Statement) → HasSpots s → HasSpots (behind_statement tables names k numbers m s a)
-  statement_spots numbers m s (Let at fixed each) h =
+  pub statement_spots : (m : ℕ) (s : Site) (a : Statement) → HasSpots s → HasSpots (behind_statement tables names k m s a)
+  statement_spots m s (Let at fixed each) h =
       let a = length-append s.spots (spots_from m each) in
       let b = declared_spots m s.place fixed each in
       omega (arith, a, b, h)
-  statement_spots numbers m s (Block at all) h = none_more s h
-  statement_spots numbers m s (IfOnly at test a) h = none_more s h
-  statement_spots numbers m s (IfElse at test a b) h = none_more s h
-  statement_spots numbers m s (While at test a) h = none_more s h
-  statement_spots numbers m s (DoWhile at a test) h = none_more s h
-  statement_spots numbers m s (For at one test step a) h = none_more s h
-  statement_spots numbers m s (ForOf at fixed x list a) h = none_more s h
-  statement_spots numbers m s (Return at value) h = none_more s h
-  statement_spots numbers m s (Break at) h = none_more s h
-  statement_spots numbers m s (Continue at) h = none_more s h
-  statement_spots numbers m s (Plain at e) h = none_more s h
-  statement_spots numbers m s (Empty at) h = none_more s h
+  statement_spots m s (Block at all) h = none_more s h
+  statement_spots m s (IfOnly at test a) h = none_more s h
+  statement_spots m s (IfElse at test a b) h = none_more s h
+  statement_spots m s (While at test a) h = none_more s h
+  statement_spots m s (DoWhile at a test) h = none_more s h
+  statement_spots m s (For at one test step a) h = none_more s h
+  statement_spots m s (ForOf at fixed x list a) h = none_more s h
+  statement_spots m s (Return at value) h = none_more s h
+  statement_spots m s (Break at) h = none_more s h
+  statement_spots m s (Continue at) h = none_more s h
+  statement_spots m s (Plain at e) h = none_more s h
+  statement_spots m s (Empty at) h = none_more s h

@@ -1,5 +1,5 @@
 -- Laws of failures and types.
-use Rattle.std.specs.Prelude.{◌≡◌, List, Option, None, IsSome}
+use Rattle.std.specs.Prelude.{◌≡◌, List, Option, Some, None, IsSome}
 use Rattle.sts_base.specs.declared.tables.Tables.{Tables}
 use Rattle.sts_syntax.specs.Trees.{Tree}
 use Rattle.sts_syntax.specs.Programs.{Program}
@@ -14,7 +14,7 @@ use Rattle.type_derive.specs.declared.roles.Role.TheVariants.{Free, Given, Calle
 use Rattle.type_derive.specs.Typing.{type_of}
 use Rattle.type_derive.specs.Nodes.{failure}
 use Rattle.type_derive.specs.Formed.{IsFormedProgram}
-use Rattle.type_derive.specs.Accepted.{AreDerived, IsAccepted, refusal}
+use Rattle.type_derive.specs.Accepted.{AreDerived, IsAccepted, typed, text_failure}
 use Rattle.type_derive.specs.Libraries.{IsLibrary}
 use Rattle.typed_laws.specs.OwnFunctions.{FunctionsAreDeclared}
 
@@ -38,10 +38,10 @@ AcceptedIsWellTyped = (tables : Tables) (library text : Program) (P : TypedProgr
     → ((kinds : List (Option StaticType)) → AreDerived tables library text kinds → IsLibrary tables library text kinds)
     → IsAccepted tables library text P → IsWellTyped P × IsProgramWithinLimits P tables.texts
 
--- In the typed program of an accepted text, with the types that its declarations have, the function at the number of a declaration is the typed function of this declaration.
+-- In the typed program of a text without a failure, with the types that its declarations have, the function at the number of a declaration is the typed function of this declaration.
 abbrev pub FunctionsAreTheirs : Type 0
 FunctionsAreTheirs =
-    (tables : Tables) (library text : Program) (kinds : List (Option StaticType)) → IsFormedProgram text
-    → AreDerived tables library text kinds
-    → IsLibrary tables library text kinds → refusal tables library text kinds ≡ None
-    → FunctionsAreDeclared tables library text kinds
+    (tables : Tables) (library text : Program) (kinds : List (Option StaticType)) (P : TypedProgram)
+    → IsFormedProgram text → AreDerived tables library text kinds → IsLibrary tables library text kinds
+    → text_failure tables library text kinds ≡ None → typed tables library text kinds ≡ Some P
+    → FunctionsAreDeclared tables library text kinds P

@@ -1,7 +1,7 @@
 -- Which functions of a typed program are those of a declaration.
 use Rattle.std.specs.Prelude.{◌≡◌, ℕ, suc, Bool, true, false, nat_lt, Option, Some, None, List, [], ◌∷◌, ◌++◌, length, slice_get}
 use Rattle.sts_base.specs.declared.tables.Tables.{Tables}
-use Rattle.sts_syntax.specs.TypedTrees.{TypedRoutine, TypedProgram}
+use Rattle.sts_syntax.specs.TypedTrees.{TypedStatements, TypedRoutine, TypedProgram}
 use Rattle.sts_syntax.specs.TypeRules.{HasRoutine}
 use Rattle.sts_syntax.specs.Trees.{Statement, Let, Declarations, ended, next, Routine}
 use Rattle.sts_syntax.specs.Programs.{ClassMember, Field, Method, Constructor, TopLevel, Class, Function, Main, Program}
@@ -17,8 +17,9 @@ use Rattle.sts_scope.specs.Handlers.{all_routines}
 use Rattle.sts_scope.specs.Numbers.{Numbering, numbering, routine_number}
 use Rattle.sts_scope.specs.Rules.{kind_at}
 use Rattle.sts_scope.specs.Scopes.{all_names, library_classes}
-use Rattle.type_derive.specs.Accepted.{known, main_routine, typed}
+use Rattle.type_derive.specs.Accepted.{known, main_routine}
 use Rattle.type_derive.specs.Programs.{function_made, method_made, items_made}
+use Rattle.type_derive.specs.Making.{Made}
 
 -- What each declaration of a program does, in text order: a function and a method have their statements, a class, a field and a global have none.
 abbrev pub global_routines : Declarations → List (Option Routine)
@@ -51,7 +52,7 @@ StandFrom P n (r ∷ rest) = HasRoutine P n r × StandFrom P (suc n) rest
 
 -- The typed function of a routine that is the whole text's or a class's, and behind it those of the function expressions in it. The library's know the library's names alone.
 abbrev pub own_functions : Tables → Naming → Known → Numbering → Owner → (library : Bool) → ℕ → Option StaticType
-    → Routine → List TypedRoutine
+    → Routine → Option (List TypedRoutine)
 own_functions tables names k numbers o.Whole library n result r =
     function_made tables names k numbers library n result r
 own_functions tables names k numbers (o.Class c) library n result r = method_made tables names k numbers c n result r
@@ -67,20 +68,19 @@ abbrev pub HasItsFunction : Tables → Naming → Known → Numbering → TypedP
     → (n : ℕ) → Option Routine → Type 0
 HasItsFunction tables names k numbers P library d a n None = is_function_or_method a.sort ≡ false
 HasItsFunction tables names k numbers P library d a n (Some r) =
-    (a ≡ routine_entry names a.owner a.name a.sort r)
-    × StandFrom P n (own_functions tables names k numbers a.owner library n (kind_at k d) r)
+    (a ≡ routine_entry names a.owner a.name a.sort r) × (own : List TypedRoutine)
+    × (own_functions tables names k numbers a.owner library n (kind_at k d) r ≡ Some own) × StandFrom P n own
 
 -- In the typed program of a text behind a library each declaration has its function, and the main program is the last one.
 pub record FunctionsAreDeclared (tables : Tables) (library text : Program)
-    (kinds : List (Option StaticType)) : Type 0 where
+    (kinds : List (Option StaticType)) (P : TypedProgram) : Type 0 where
   pub as_many : length (declared_routines (library ++ text)) ≡ length (known library text kinds).entries
   pub each : (d : ℕ) (a : Entry) (does : Option Routine) → slice_get (known library text kinds).entries d ≡ Some a
       → slice_get (declared_routines (library ++ text)) d ≡ Some does
       → HasItsFunction tables (all_names library text) (known library text kinds) (numbering (library ++ text))
-      (typed tables library text kinds)
-      (nat_lt d (known library text kinds).library) d a (routine_number (numbering (library ++ text)) d) does
-  pub last : (typed tables library text kinds).main ≡ all_routines (library ++ text)
-  pub main : HasRoutine (typed tables library text kinds) (all_routines (library ++ text))
-      (main_routine (items_made tables (all_names library text) (known library text kinds) (numbering (library ++ text))
-      (library_classes library text)
-      (known library text kinds).library 0 (all_routines library) text))
+      P (nat_lt d (known library text kinds).library) d a (routine_number (numbering (library ++ text)) d) does
+  pub last : P.main ≡ all_routines (library ++ text)
+  pub made : Made TypedStatements
+  pub made_of : items_made tables (all_names library text) (known library text kinds) (numbering (library ++ text))
+      (library_classes library text) (known library text kinds).library 0 (all_routines library) text ≡ Some made
+  pub main : HasRoutine P (all_routines (library ++ text)) (main_routine made)

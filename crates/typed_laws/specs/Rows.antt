@@ -5,10 +5,11 @@ use Rattle.sts_syntax.specs.Annotations as s
 use Rattle.sts_syntax.specs.Trees as t
 use Rattle.sts_syntax.specs.Trees.{none, more, present, done, also, ended, next, Declare, Does}
 use Rattle.sts_syntax.specs.Programs.{Field, Method, Class, Function, Main, Program}
-use Rattle.sts_syntax.specs.TypedTrees.{TypedProgram}
+use Rattle.sts_syntax.specs.TypedTrees.{TypedRoutine}
 use Rattle.sts_scope.specs.declared.kinds.StaticType.{StaticType}
 use Rattle.sts_scope.specs.declared.known.Known.{Known}
 use Rattle.sts_scope.specs.Failures.{Failure}
+use Rattle.type_derive.specs.Typing.{◌>>=◌}
 use Rattle.type_derive.specs.Accepted.{refusal, typed, derivation, known}
 
 -- a table of so many declarations, all without a type
@@ -35,8 +36,8 @@ known_at_last tables text = known [] text (rounds tables text 4)
 abbrev pub refused : Tables → Program → Option Failure
 refused tables text = refusal tables [] text (rounds tables text 4)
 
-abbrev pub built : Tables → Program → TypedProgram
-built tables text = typed tables [] text (rounds tables text 4)
+abbrev pub built_functions : Tables → Program → Option (List TypedRoutine)
+built_functions tables text = typed tables [] text (rounds tables text 4) >>= λ p. Some p.functions
 
 abbrev pub spelled : List (List ℕ) → Tables
 spelled names = record { names = names; texts = [] }

@@ -16,7 +16,7 @@ use Rattle.sts_scope.specs.Lookup.{base_of, member_number, sort_of}
 use Rattle.sts_scope.specs.Numbers.{Numbering, global_number, field_names, slot_names, is_listed, place_among}
 use Rattle.sts_scope.specs.Rules.{kind_at}
 use Rattle.sts_scope.specs.Scopes.{is_global, names_of}
-use Rattle.type_derive.specs.Accepted.{AreDerived, refusal}
+use Rattle.type_derive.specs.Accepted.{AreDerived, text_failure}
 use Rattle.type_derive.specs.Libraries.{OnlyFunctions}
 use Rattle.typed_laws.specs.Chains.{BasesAreClasses}
 
@@ -24,7 +24,7 @@ use Rattle.typed_laws.specs.Chains.{BasesAreClasses}
 pub record IsAcceptedWith (tables : Tables) (library text : Program) (kinds : List (Option StaticType)) : Type 0 where
   pub functions : OnlyFunctions library
   pub derived : AreDerived tables library text kinds
-  pub no_failure : refusal tables library text kinds ≡ None
+  pub no_failure : text_failure tables library text kinds ≡ None
 
 -- the place of a name among names is one where it stands
 abbrev pub HasItsPlace : List ℕ → ℕ → Type 0

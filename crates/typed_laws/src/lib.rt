@@ -2,6 +2,7 @@
 #![tactic(auto)]
 
 mod bases;
+mod built;
 mod causes;
 mod formed;
 mod library;
@@ -13,6 +14,7 @@ pub use bases::{
     bases_are_classes, classes_reach_those_above, constructors_are_of_the_nearest,
     endless_chains_come_back, members_are_of_the_nearest, names_of_the_base_come_first,
 };
+pub use built::texts_without_a_failure_are_built;
 pub use causes::expressions_fail_for_a_part_or_their_cause;
 pub use formed::{spelled_programs_are_formed, typed_programs_name_texts_of_their_trees};
 pub use library::{

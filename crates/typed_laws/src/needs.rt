@@ -18,7 +18,7 @@ ghost use Rattle.sts_scope.specs.Rules.{class_part};
 ghost use Rattle.sts_scope.specs.Scopes.{all_names, library_classes};
 ghost use Rattle.type_derive.specs.declared.roles.Role.{Role};
 ghost use Rattle.type_derive.specs.declared.roles.Role.TheVariants.{Free};
-ghost use Rattle.type_derive.specs.Accepted.{AreDerived, known, refusal};
+ghost use Rattle.type_derive.specs.Accepted.{AreDerived, known, text_failure};
 ghost use Rattle.type_derive.specs.Built.{Site, in_block, behind_statement, in_handler_site};
 ghost use Rattle.type_derive.specs.Formed.{IsFormedProgram};
 ghost use Rattle.type_derive.specs.Libraries.{IsLibrary};
@@ -49,15 +49,15 @@ pub fn nodes_without_a_failure_are_whole()
 pub fn each_local_in_scope_has_a_spot()
     ensures outside { (this : This) (library : Bool) (gives : Option StaticType)
         → HasSpots (record { place = outside this library gives; spots = [] }) }
-    ensures functions { (tables : Tables) (names : Naming) (k : Known) (numbers : Numbering) (this : This)
-        (result : Option StaticType) (library : Bool) (i : ℕ) (params : List Parameter) →
-        HasSpots (site tables names k numbers this result library i params) }
-    ensures handlers { (tables : Tables) (names : Naming) (k : Known) (numbers : Numbering) (s : Site)
+    ensures functions { (names : Naming) (this : This) (result : Option StaticType) (library : Bool) (i : ℕ)
+        (params : List Parameter) →
+        HasSpots (site names this result library i params) }
+    ensures handlers { (tables : Tables) (names : Naming) (k : Known) (s : Site)
         (gives : Option Annotation) (all : Statements) →
-        HasSpots (in_handler_site tables names k numbers s [] gives all) }
+        HasSpots (in_handler_site tables names k s [] gives all) }
     ensures blocks { (s : Site) → HasSpots s → HasSpots (in_block s) }
-    ensures statements { (tables : Tables) (names : Naming) (k : Known) (numbers : Numbering) (m : ℕ) (s : Site)
-        (a : Statement) → HasSpots s → HasSpots (behind_statement tables names k numbers m s a) }
+    ensures statements { (tables : Tables) (names : Naming) (k : Known) (m : ℕ) (s : Site)
+        (a : Statement) → HasSpots s → HasSpots (behind_statement tables names k m s a) }
     ensures loops { (tables : Tables) (names : Naming) (k : Known) (m x : ℕ) (s : Site) (fixed : Bool) (list : Tree)
         → HasSpots s →
         HasSpots (record {
@@ -70,12 +70,12 @@ pub fn each_local_in_scope_has_a_spot()
 pub fn members_stand_among_the_names_of_their_class()
     ensures fields { (tables : Tables) (library text : Program) (kinds : List (Option StaticType))
         → IsFormedProgram text → AreDerived tables library text kinds →
-        IsLibrary tables library text kinds → refusal tables library text kinds ≡ None → (c m d : ℕ)
+        IsLibrary tables library text kinds → text_failure tables library text kinds ≡ None → (c m d : ℕ)
         → class_part (known library text kinds) (Some c) m ≡ part.Field d →
         is_listed (field_names (known library text kinds) c) m ≡ true }
     ensures slots { (tables : Tables) (library text : Program) (kinds : List (Option StaticType)) → IsFormedProgram text
         → AreDerived tables library text kinds →
-        IsLibrary tables library text kinds → refusal tables library text kinds ≡ None → (c m d : ℕ)
+        IsLibrary tables library text kinds → text_failure tables library text kinds ≡ None → (c m d : ℕ)
         → class_part (known library text kinds) (Some c) m ≡ part.Method d →
         is_listed (slot_names (known library text kinds) c) m ≡ true }
 {}

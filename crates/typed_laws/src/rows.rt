@@ -10,7 +10,7 @@ ghost use Rattle.sts_scope.specs.Kinds.{number};
 ghost use Rattle.sts_scope.specs.Lookup.{member_number};
 ghost use Rattle.sts_scope.specs.Numbers.{field_names, global_number};
 ghost use Rattle.sts_scope.specs.Rules.{kind_at};
-ghost use Rattle.typed_laws.specs.Rows.{known_at_last, refused, built, sum_names, written_sum, unknown_names, unknown, v_names, null_alone, a_names, own_base, array_names, arrays, captured_names, captured, empties, no_names, overriding_names, overriding, handler_names, bad_handler, call_names, calling, calling_itself};
+ghost use Rattle.typed_laws.specs.Rows.{known_at_last, refused, built_functions, sum_names, written_sum, unknown_names, unknown, v_names, null_alone, a_names, own_base, array_names, arrays, captured_names, captured, empties, no_names, overriding_names, overriding, handler_names, bad_handler, call_names, calling, calling_itself};
 
 /// Texts with one failure.
 pub fn rows_of_failures()
@@ -24,13 +24,13 @@ pub fn rows_of_failures()
 /// A text without one, and its typed tree.
 pub fn rows_of_accepted()
     ensures accepted { refused sum_names written_sum ≡ None }
-    ensures main { (built sum_names written_sum).functions ≡ record {
+    ensures main { built_functions sum_names written_sum ≡ Some (record {
       params = [];
       locals = [];
       gives = t.Nothing;
       all = e.also (e.Plain (e.Call t.Nothing (c.Board WriteNumber)
           (e.more (e.Binary t.Number 13 (e.Num t.Number (pos 2147483647)) (e.Num t.Number (pos 1))) e.none))) e.done;
-    } ∷ [] }
+    } ∷ []) }
 {}
 
 /// Overriding methods, handlers, and results that are derived.

@@ -8,7 +8,8 @@ use Rattle.sts_scope.specs.declared.known.Known.{Known}
 use Rattle.sts_scope.specs.declared.known.Local.{Local}
 use Rattle.sts_scope.specs.Entries.{Naming}
 use Rattle.sts_scope.specs.Places.{NameScope}
-use Rattle.type_derive.specs.Built.{Site, in_block, behind_statement, new_spots}
+use Rattle.type_derive.specs.Built.{Site, in_block, new_spots}
+use Rattle.type_derive.specs.inner.Filled.{behind_statement}
 use Rattle.type_derive.specs.Moves.{Extends, left}
 use Rattle.sts_scope.specs.Numbers.{Numbering}
 use Rattle.type_derive.specs.Returns.{after}

@@ -14,8 +14,9 @@ use Rattle.sts_syntax.specs.Views.{tree, trees}
 use Rattle.sts_scope.specs.declared.kinds.StaticType.{StaticType}
 use Rattle.sts_scope.specs.Kinds.{nothing}
 use Rattle.sts_scope.specs.Rules as rule
-use Rattle.type_derive.specs.Built as b
-use Rattle.type_derive.specs.Making.{Made, Making, pure, ◌>=>◌}
+use Rattle.type_derive.specs.inner.Filled as b
+use Rattle.type_derive.specs.Making.{Made}
+use Rattle.type_derive.specs.inner.Filling.{Making, pure, ◌>=>◌}
 use Rattle.sts_scope.specs.Numbers.{routine_number}
 use Rattle.type_derive.specs.Typing as typing
 use Rattle.typed_trees.specs.declared.build_places.Plan.{Plan}

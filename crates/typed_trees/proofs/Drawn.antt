@@ -3,7 +3,7 @@ use Rattle.std.proofs.Common.{◌≡◌, ◌+◌, ◌-◌, ◌*◌, ◌^◌, ◌
 use Rattle.std.specs.Prelude.{if◌then◌else◌, not, cond}
 use Rattle.std.specs.List.{list_all}
 use native.Mathlib.Numerals.{unary_clauses}
-use Rattle.type_derive.specs.Built as b
+use Rattle.type_derive.specs.inner.Filled as b
 use Rattle.type_derive.specs.Typing as typing
 use Rattle.typed_trees.proofs.Pieces.{drop_all}
 

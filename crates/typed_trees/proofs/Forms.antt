@@ -14,7 +14,8 @@ use Rattle.sts_syntax.specs.TypedTrees.{TypedTree, TypedRoutine, OptionalTypedSt
 use Rattle.sts_scope.specs.declared.kinds.StaticType.{StaticType}
 use Rattle.sts_scope.specs.Entries.{written_kind}
 use Rattle.sts_syntax.specs.TypedViews.{typed_routines}
-use Rattle.type_derive.specs.Making.{Made, Making, pure, ◌>=>◌, a_local}
+use Rattle.type_derive.specs.Making.{Made}
+use Rattle.type_derive.specs.inner.Filling.{Making, pure, ◌>=>◌, a_local}
 use Rattle.sts_syntax.specs.Trees.{OptionalTree, absent, present}
 use Rattle.type_derive.specs.Built.{Site}
 use Rattle.typed_trees.specs.Sites as s

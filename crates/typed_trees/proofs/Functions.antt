@@ -18,8 +18,9 @@ use Rattle.sts_syntax.specs.Views.{statements, routine}
 use Rattle.sts_syntax.proofs.Laws.{routine_parts}
 use Rattle.std.specs.Prelude.{Bool, false, Result, Ok, Err, OnOk}
 use Rattle.sts_scope.specs.declared.known.This.TheVariants as this
-use Rattle.type_derive.specs.Built as b
-use Rattle.type_derive.specs.Making.{Made, Making}
+use Rattle.type_derive.specs.inner.Filled as b
+use Rattle.type_derive.specs.Making.{Made}
+use Rattle.type_derive.specs.inner.Filling.{Making}
 use Rattle.typed_trees.specs.declared.build_places.Builder.{Builder}
 use Rattle.typed_trees.specs.declared.build_places.Plan.{Plan}
 use Rattle.typed_trees.specs.Fits.{numbers_taken, RoutineFits}

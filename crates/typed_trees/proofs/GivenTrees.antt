@@ -7,8 +7,8 @@ use Rattle.sts_syntax.specs.TypedViews.{typed_tree, typed_trees}
 use Rattle.sts_syntax.specs.Views.{tree, trees}
 use Rattle.sts_scope.proofs.Laws.{drop_at}
 use Rattle.sts_scope.specs.declared.kinds.StaticType.{StaticType}
-use Rattle.type_derive.specs.Built as b
-use Rattle.type_derive.specs.Making.{Making, pure, ◌>=>◌}
+use Rattle.type_derive.specs.inner.Filled as b
+use Rattle.type_derive.specs.inner.Filling.{Making, pure, ◌>=>◌}
 use Rattle.typed_trees.specs.declared.build_places.Builder.{Builder}
 use Rattle.typed_trees.specs.declared.build_places.Plan.{Plan}
 use Rattle.typed_trees.specs.Calls.{Places, argument_made, arguments_made, behind_made}

@@ -15,8 +15,9 @@ use Rattle.sts_syntax.specs.Views.{tree, node_tree, routine}
 use Rattle.sts_scope.specs.declared.kinds.StaticType.{StaticType}
 use Rattle.sts_scope.specs.Kinds.{number, boolean, text, null}
 use Rattle.sts_scope.specs.Rules as rule
-use Rattle.type_derive.specs.Built as b
-use Rattle.type_derive.specs.Making.{Made, Making, pure, ◌>=>◌}
+use Rattle.type_derive.specs.inner.Filled as b
+use Rattle.type_derive.specs.Making.{Made}
+use Rattle.type_derive.specs.inner.Filling.{Making, pure, ◌>=>◌}
 use Rattle.type_derive.specs.Typing as typing
 use Rattle.type_derive.specs.Typing.{◌>>=◌}
 use Rattle.typed_trees.specs.declared.build_places.Builder.{Builder}

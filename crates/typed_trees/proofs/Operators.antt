@@ -14,8 +14,8 @@ use Rattle.sts_syntax.specs.Trees.{Tree, Unary, Binary, Both, Either, Choice, Se
 use Rattle.sts_syntax.specs.Views.{tree, node_tree}
 use Rattle.sts_scope.specs.declared.kinds.StaticType.{StaticType}
 use Rattle.sts_scope.specs.Rules as rule
-use Rattle.type_derive.specs.Built as b
-use Rattle.type_derive.specs.Making.{Making, pure, ◌>=>◌}
+use Rattle.type_derive.specs.inner.Filled as b
+use Rattle.type_derive.specs.inner.Filling.{Making, pure, ◌>=>◌}
 use Rattle.type_derive.specs.Typing as typing
 use Rattle.type_derive.specs.Typing.{◌>>=◌}
 use Rattle.typed_trees.specs.declared.build_nodes.Part.{Part}

@@ -12,8 +12,8 @@ use Rattle.sts_syntax.specs.declared.trees.Node.TheVariants as n
 use Rattle.std.specs.declared.alloc.Global.{Global}
 use Rattle.std.specs.declared.boxed.Box.{Box}
 use Rattle.sts_scope.specs.declared.kinds.StaticType.{StaticType}
-use Rattle.type_derive.specs.Built as b
-use Rattle.type_derive.specs.Making.{pure}
+use Rattle.type_derive.specs.inner.Filled as b
+use Rattle.type_derive.specs.inner.Filling.{pure}
 use Rattle.typed_trees.specs.declared.build_heads.Head.{Head}
 use Rattle.typed_trees.specs.declared.build_places.Builder.{Builder}
 use Rattle.typed_trees.specs.declared.build_places.Plan.{Plan}

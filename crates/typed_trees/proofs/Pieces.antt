@@ -3,7 +3,8 @@ use Rattle.std.proofs.Common.{◌≡◌, ℕ, zero, suc, min, ◌+◌, ◌-◌, 
 use Rattle.sts_syntax.specs.Types.{ValueType, value_types}
 use Rattle.sts_syntax.specs.TypedTrees.{TypedRoutine}
 use Rattle.sts_syntax.specs.TypedViews.{typed_routines}
-use Rattle.type_derive.specs.Making.{Made, Making, pure, ◌>=>◌, a_local}
+use Rattle.type_derive.specs.Making.{Made}
+use Rattle.type_derive.specs.inner.Filling.{Making, pure, ◌>=>◌, a_local}
 use Rattle.typed_trees.specs.Fits.{numbers_taken, NumbersFit}
 use Rattle.typed_trees.specs.Steps.{IsMade, IsBuilt}
 use Rattle.typed_trees.specs.declared.build_places.Builder.{Builder}

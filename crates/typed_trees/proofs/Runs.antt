@@ -19,8 +19,9 @@ use Rattle.sts_scope.proofs.Laws.{drop_at}
 use Rattle.sts_scope.specs.declared.known.Known.{Known}
 use Rattle.sts_scope.specs.Entries.{Naming, written_kind}
 use Rattle.sts_scope.specs.Kinds.{value_type}
-use Rattle.type_derive.specs.Built.{Site, kind_or_nothing, made_first, made_local, spots_from}
-use Rattle.type_derive.specs.Making.{Making, pure, ◌>=>◌}
+use Rattle.type_derive.specs.Built.{Site, spots_from}
+use Rattle.type_derive.specs.inner.Filled.{kind_or_nothing, made_first, made_local}
+use Rattle.type_derive.specs.inner.Filling.{Making, pure, ◌>=>◌}
 use Rattle.sts_scope.specs.Numbers.{Numbering}
 use Rattle.type_derive.specs.Returns.{all_declared, declared, bound}
 use Rattle.typed_numbers.specs.Building.{numbering_of}

@@ -10,7 +10,7 @@ use Rattle.sts_syntax.specs.Views.{tree, node_tree}
 use Rattle.sts_scope.specs.declared.kinds.StaticType.{StaticType}
 use Rattle.sts_scope.specs.Kinds.{is_array, class_of}
 use Rattle.sts_scope.specs.Rules as rule
-use Rattle.type_derive.specs.Built as b
+use Rattle.type_derive.specs.inner.Filled as b
 use Rattle.type_derive.specs.Typing as typing
 use Rattle.type_derive.specs.Typing.{◌>>=◌}
 use Rattle.typed_trees.specs.declared.build_places.Plan.{Plan}

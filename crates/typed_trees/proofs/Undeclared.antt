@@ -14,9 +14,11 @@ use Rattle.sts_scope.specs.declared.known.Known.{Known}
 use Rattle.sts_scope.specs.Entries.{Naming}
 use Rattle.sts_scope.specs.Rules.{takes_at, maker_takes_of}
 use Rattle.type_derive.specs.Typing.{finds, constant_of, board_callee, super_method, behind}
-use Rattle.type_derive.specs.Making.{Made, Making, pure, ◌>=>◌}
+use Rattle.type_derive.specs.Making.{Made}
+use Rattle.type_derive.specs.inner.Filling.{Making, pure, ◌>=>◌}
 use Rattle.sts_scope.specs.Numbers.{Numbering, routine_number}
-use Rattle.type_derive.specs.Built.{Site, made_tree, made_given, made_items, made_asked, made_call, argument_made, amiss, member_read, part_in, class_in, board_target, routine_of, part_target, asked_given, next_given, later_given, type_in, call_takes, class_found, noted}
+use Rattle.type_derive.specs.Built.{Site, board_target}
+use Rattle.type_derive.specs.inner.Filled.{made_tree, made_given, made_items, made_asked, made_call, argument_made, amiss, member_read, part_in, class_in, routine_of, part_target, asked_given, next_given, later_given, type_in, call_takes, class_found, noted}
 
 -- what adds no local
 abbrev pub Adds0 : {A : Type 0} → Making A → Type 0

@@ -17,8 +17,8 @@ use Rattle.sts_scope.specs.declared.known.Found.{Found}
 use Rattle.sts_scope.specs.declared.known.Part.{Part}
 use Rattle.sts_scope.specs.Kinds.{nothing}
 use Rattle.sts_scope.specs.Rules.{takes_at, maker_takes_of}
-use Rattle.type_derive.specs.Built as b
-use Rattle.type_derive.specs.Making.{Making, pure, ◌>=>◌}
+use Rattle.type_derive.specs.inner.Filled as b
+use Rattle.type_derive.specs.inner.Filling.{Making, pure, ◌>=>◌}
 use Rattle.sts_scope.specs.Numbers.{routine_number}
 use Rattle.type_derive.specs.Typing as typing
 use Rattle.typed_numbers.specs.Building.{numbering_of}

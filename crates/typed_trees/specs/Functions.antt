@@ -5,9 +5,10 @@ use Rattle.sts_syntax.specs.Trees.{Parameter, Routine}
 use Rattle.sts_syntax.specs.TypedTrees.{TypedStatements, TypedRoutine}
 use Rattle.sts_scope.specs.declared.kinds.StaticType.{StaticType}
 use Rattle.sts_scope.specs.declared.known.This.{This}
-use Rattle.type_derive.specs.Built as b
-use Rattle.type_derive.specs.Making.{Made, Making}
-use Rattle.type_derive.specs.Programs as p
+use Rattle.type_derive.specs.inner.Filled as b
+use Rattle.type_derive.specs.Making.{Made}
+use Rattle.type_derive.specs.inner.Filling.{Making}
+use Rattle.type_derive.specs.inner.FilledPrograms as p
 use Rattle.typed_numbers.specs.Building.{numbering_of}
 use Rattle.typed_trees.specs.declared.build_places.Plan.{Plan}
 use Rattle.typed_trees.specs.Sites.{naming}

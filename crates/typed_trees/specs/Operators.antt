@@ -9,8 +9,8 @@ use Rattle.sts_syntax.specs.TypedViews.{typed_tree}
 use Rattle.sts_scope.specs.declared.kinds.StaticType.{StaticType}
 use Rattle.sts_scope.specs.Kinds.{nothing}
 use Rattle.sts_scope.specs.Rules as rule
-use Rattle.type_derive.specs.Built as b
-use Rattle.type_derive.specs.Making.{Making, pure, ◌>=>◌}
+use Rattle.type_derive.specs.inner.Filled as b
+use Rattle.type_derive.specs.inner.Filling.{Making, pure, ◌>=>◌}
 use Rattle.type_derive.specs.Typing.{◌>>=◌}
 use Rattle.typed_trees.specs.Sites.{tree_made, tree_kind, noted}
 use Rattle.typed_trees.specs.declared.build_operators.Operator.{Operator}

@@ -15,8 +15,9 @@ use Rattle.sts_scope.specs.Entries.{Naming}
 use Rattle.sts_scope.specs.Lookup.{is_field}
 use Rattle.sts_scope.specs.Values.{value_at}
 use Rattle.type_derive.specs.declared.roles.Role.{Role}
-use Rattle.type_derive.specs.Built as b
-use Rattle.type_derive.specs.Making.{Made, Making}
+use Rattle.type_derive.specs.inner.Filled as b
+use Rattle.type_derive.specs.Making.{Made}
+use Rattle.type_derive.specs.inner.Filling.{Making}
 use Rattle.type_derive.specs.Nodes.{kind_role}
 use Rattle.sts_scope.specs.Numbers.{is_method}
 use Rattle.type_derive.specs.Scopes.{place}

@@ -7,9 +7,10 @@ use Rattle.sts_syntax.specs.Types.{value_types}
 use Rattle.sts_syntax.specs.TypedTrees.{TypedTree, TypedDeclaration, TypedStatement, OptionalTypedStatement, For, Empty}
 use Rattle.sts_syntax.specs.TypedViews.{typed_routines}
 use Rattle.sts_scope.specs.declared.kinds.StaticType.{StaticType}
-use Rattle.type_derive.specs.Built as b
+use Rattle.type_derive.specs.inner.Filled as b
 use Rattle.type_derive.specs.Returns.{is_alone}
-use Rattle.type_derive.specs.Making.{Made, Making, pure, ◌>=>◌}
+use Rattle.type_derive.specs.Making.{Made}
+use Rattle.type_derive.specs.inner.Filling.{Making, pure, ◌>=>◌}
 use Rattle.typed_numbers.specs.Building.{numbering_of}
 use Rattle.typed_trees.specs.Fits.{NumbersFit}
 use Rattle.typed_trees.specs.Sites.{naming, body_made, optional_made, statement_made}

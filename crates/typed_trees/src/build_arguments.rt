@@ -4,7 +4,7 @@ ghost use Rattle.std.specs.Option.{option_map};
 ghost use Rattle.sts_syntax.specs.BoardViews.{board_parameter};
 ghost use Rattle.sts_syntax.specs.TypedViews.{typed_tree};
 ghost use Rattle.sts_syntax.specs.Views.{tree};
-ghost use Rattle.type_derive.specs.Built as b;
+ghost use Rattle.type_derive.specs.inner.Filled as b;
 ghost use Rattle.type_derive.specs.Typing as typing;
 ghost use Rattle.typed_trees.specs.Calls as call;
 ghost use Rattle.typed_trees.specs.Sites as s;

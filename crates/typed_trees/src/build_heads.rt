@@ -5,7 +5,7 @@ ghost use Rattle.sts_syntax.specs.Types.{value_type};
 ghost use Rattle.sts_syntax.specs.TypedTrees as typed;
 ghost use Rattle.sts_syntax.specs.TypedViews.{typed_tree, typed_trees};
 ghost use Rattle.sts_syntax.specs.Views.{tree, trees};
-ghost use Rattle.type_derive.specs.Built as b;
+ghost use Rattle.type_derive.specs.inner.Filled as b;
 ghost use Rattle.typed_trees.specs.Calls as call;
 ghost use Rattle.typed_trees.specs.Sites as s;
 ghost use Rattle.typed_trees.specs.Sites.{IsPlan};

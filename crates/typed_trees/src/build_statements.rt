@@ -4,7 +4,7 @@ ghost use Rattle.sts_syntax.specs.TypedTrees as t;
 ghost use Rattle.sts_syntax.specs.TypedTrees.{OptionalTypedStatement};
 ghost use Rattle.sts_syntax.specs.TypedViews.{optional_typed_tree, typed_statement, typed_statements};
 ghost use Rattle.sts_syntax.specs.Views.{routine, statement, statements};
-ghost use Rattle.type_derive.specs.Built as b;
+ghost use Rattle.type_derive.specs.inner.Filled as b;
 ghost use Rattle.typed_trees.specs.Fits.{NumbersFit};
 ghost use Rattle.typed_trees.specs.Grown.{Grown};
 ghost use Rattle.typed_trees.specs.Sites as s;

@@ -16,8 +16,8 @@ use Rattle.sts_syntax.specs.TypedTrees as e
 use Rattle.sts_syntax.specs.TypedTrees.{TypedDeclaration, TypedStatements}
 use Rattle.sts_syntax.specs.TypedViews.{optional_typed_tree, typed_declarations, typed_tree, typed_trees, typed_statement, typed_statements, typed_routine, typed_routines}
 use Rattle.sts_syntax.specs.Views.{tree, trees, optional_expression, optional_annotation, declaration, declarations, statement, statements, routine, node_tree}
-use Rattle.type_derive.specs.Built as b
-use Rattle.type_derive.specs.Making.{Making, pure, ◌>=>◌, a_local}
+use Rattle.type_derive.specs.inner.Filled as b
+use Rattle.type_derive.specs.inner.Filling.{Making, pure, ◌>=>◌, a_local}
 use Rattle.type_derive.specs.Returns as derive
 use Rattle.type_derive.specs.Scopes.{place}
 use Rattle.typed_numbers.specs.Building.{numbering_of}

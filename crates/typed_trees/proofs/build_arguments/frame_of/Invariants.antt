@@ -1,5 +1,5 @@
 use Rattle.std.proofs.Common.{◌≡◌, ◌-◌, drop, length}
-use Rattle.type_derive.specs.Built as b
+use Rattle.type_derive.specs.inner.Filled as b
 use Rattle.type_derive.specs.Typing as typing
 use Rattle.typed_trees.proofs.build_arguments.frame_of.Given as goal
 
