@@ -11,8 +11,8 @@ use Rattle.sts_grammar.specs.Units.{IsProgram}
 use Rattle.sts_whole.specs.Checking as checking
 use Rattle.sts_whole.specs.Accepting.{ReadsText, RefusesText}
 
-pub program_refused : (why : Refused) (text : List ℕ) (tables : Tables) (library : Program) (tokens : List Token) (p : Program) → ReadsText text tables library tokens → NoneDeep tokens
+pub program_refused : checking.FilledIsTyped → (why : Refused) (text : List ℕ) (tables : Tables) (library : Program) (tokens : List Token) (p : Program) → ReadsText text tables library tokens → NoneDeep tokens
     → IsProgram (source tokens tables) p → checking.RefusesTrees why tables library p → RefusesText text why
-program_refused (why.Program code at) text tables library tokens p read shallow spelled refused =
-    inr (inr (record { tables = tables; library = library; tokens = tokens; read = read; shallow = shallow; program = p; spelled = spelled; refused = refused }))
-program_refused why.NoMemory text tables library tokens p read shallow spelled refused = tt
+program_refused typed (why.Program code at) text tables library tokens p read shallow spelled refused =
+    inr (inr (record { tables = tables; library = library; tokens = tokens; read = read; shallow = shallow; program = p; spelled = spelled; refused = typed.refused text tables library tokens p (record { code = code; at = at }) read refused }))
+program_refused typed why.NoMemory text tables library tokens p read shallow spelled refused = tt

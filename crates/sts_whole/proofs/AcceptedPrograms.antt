@@ -1,5 +1,6 @@
 -- The typed program of an accepted text can be built.
-use Rattle.std.proofs.Common.{◌≡◌, ◌≤◌, ℕ, zero, suc, List, length, take, Option, All, sym, subst, arith}
+use Rattle.std.proofs.Common.{◌≡◌, ◌≤◌, ℕ, zero, suc, List, length, take, Option, Some, None, All, sym, ◌∙◌, subst, arith}
+use Rattle.std.proofs.lemmas.Option.{same_Some}
 use Rattle.sts_base.specs.declared.tables.Tables.{Tables}
 use Rattle.sts_lexer.specs.Laws.{SpellingsStay}
 use Rattle.sts_lexer.specs.Tokens.{IsTokenization}
@@ -9,7 +10,8 @@ use Rattle.sts_syntax.specs.Programs.{Program}
 use Rattle.sts_syntax.specs.TypedTrees.{TypedProgram}
 use Rattle.sts_syntax.specs.Weights.{routines_weight}
 use Rattle.sts_scope.specs.declared.kinds.StaticType.{StaticType}
-use Rattle.type_derive.specs.Accepted.{AreDerived, IsAccepted, typed}
+use Rattle.type_derive.specs.Accepted.{AreDerived, IsAccepted, text_failure, typed}
+use Rattle.type_derive.specs.inner.FilledTexts.{filled}
 use Rattle.type_derive.specs.Libraries.{IsLibrary}
 use Rattle.type_derive.specs.Formed.{TextsBelow}
 use Rattle.sts_prelude.specs.inner.Library as l
@@ -18,6 +20,11 @@ use Rattle.sts_prelude.specs.declared.text.TheConstants.{LIBRARY}
 use Rattle.typed_laws.proofs.Laws.{program_formed, program_texts_below, typed_names}
 use Rattle.typed_laws.specs.LibraryLaws.{first, PreludeIsLibrary, LibraryLeavesFirst, TypedLibraryIsLight}
 use Rattle.typed_laws.specs.Laws.{AcceptedIsWellTyped}
+use Rattle.typed_laws.specs.BuiltTexts.{TextsAreBuilt}
+use Rattle.sts_scope.specs.Failures.{Failure}
+use Rattle.type_derive.specs.Limits.{limits_failure}
+use Rattle.type_derive.specs.Typing.{◌>>=◌}
+use Rattle.sts_whole.proofs.FilledTexts.{first_none}
 use Rattle.sts_whole.specs.Accepting.{Accepts}
 use Rattle.sts_whole.specs.Buildable.{IsBuildable}
 use Rattle.sts_whole.proofs.LibraryBehind.{Behind, behind, begin}
@@ -30,6 +37,7 @@ pub record Laws : Type 0 where
   pub leaves : LibraryLeavesFirst
   pub prelude : PreludeIsLibrary
   pub light : TypedLibraryIsLight
+  pub built : TextsAreBuilt
   pub well_typed : AcceptedIsWellTyped
 
 line_end : All Bytes first.texts
@@ -37,7 +45,7 @@ line_end zero d h = (omega arith, (omega arith, tt))
 line_end (suc n) d h = absurd (omega (arith, h))
 
 abbrev IsLight : Tables → Program → Program → Type 0
-IsLight tables library text = (kinds : List (Option StaticType)) → AreDerived tables library text kinds → routines_weight (take library_size (typed tables library text kinds).functions) ≤ 600
+IsLight tables library text = (kinds : List (Option StaticType)) → AreDerived tables library text kinds → routines_weight (take library_size (filled tables library text kinds).functions) ≤ 600
 
 abbrev IsLibraryBefore : Tables → Program → Program → Type 0
 IsLibraryBefore tables library text = (kinds : List (Option StaticType)) → AreDerived tables library text kinds → IsLibrary tables library text kinds
@@ -59,7 +67,9 @@ buildable laws text tables P h =
     program_texts_below tables LIBRARY.now b.own L own (laws.spells.spelled tables b.own b.read.names b.read.texts own) in
     let text_below : TextsBelow (length tables.texts) h.program = program_texts_below tables text h.tokens h.program b.read.tokens h.spelled in
     let sound = laws.well_typed tables L h.program P (program_formed tables text h.tokens h.program b.read.tokens h.spelled) before accepted in
-    let is : P ≡ typed tables L h.program accepted.0 = accepted.3 in (
+    let limits : Option TypedProgram → Option Failure = λ z. z >>= λ p. limits_failure tables.texts p in
+    let none : text_failure tables L h.program accepted.0 ≡ None = first_none (text_failure tables L h.program accepted.0) (limits (typed tables L h.program accepted.0)) accepted.2 in
+    let is : P ≡ filled tables L h.program accepted.0 = same_Some P (filled tables L h.program accepted.0) (sym accepted.3 ∙ laws.built tables L h.program accepted.0 accepted.1 (before accepted.0 accepted.1) none) in (
       record {
         typed = sound.0;
         limits = sound.1;

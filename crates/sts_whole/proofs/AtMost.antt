@@ -29,9 +29,12 @@ use Rattle.sts_scope.specs.Rules.{kind_at, takes_at, maker_takes_of}
 use Rattle.type_derive.specs.declared.roles.Role.TheVariants.{Free}
 use Rattle.type_derive.specs.Typing.{constant_of, board_callee, super_method, type_of, finds, behind}
 use Rattle.type_derive.specs.Returns.{bound, looped, items_of}
-use Rattle.type_derive.specs.Making.{Made, Making, pure, ◌>=>◌, a_local}
-use Rattle.type_derive.specs.Built.{Site, in_block, amiss, made_tree, made_given, made_items, made_asked, made_call, made_body, made_first, made_optional, made_value, made_locals, made_local, made_statement, made_opening, made_statements, noted, type_in, part_in, class_in, member_read, part_target, routine_of, class_found, call_takes, board_target, asked_given, argument_made, next_given, later_given, behind_statement, first_site, in_handler_site, kind_or_nothing}
-use Rattle.type_derive.specs.Programs.{◌before◌, site, function_made, method_made, initial_made, initials, super_called, made_statements_of, constructor_made, unwritten_made, members_made, class_made, global_made, globals_made, main_made, items_made, library_made}
+use Rattle.type_derive.specs.Making.{Made}
+use Rattle.type_derive.specs.inner.Filling.{Making, pure, ◌>=>◌, a_local}
+use Rattle.type_derive.specs.Built.{Site, in_block, board_target}
+use Rattle.type_derive.specs.inner.Filled.{amiss, made_tree, made_given, made_items, made_asked, made_call, made_body, made_first, made_optional, made_value, made_locals, made_local, made_statement, made_opening, made_statements, noted, type_in, part_in, class_in, member_read, part_target, routine_of, class_found, call_takes, asked_given, argument_made, next_given, later_given, behind_statement, first_site, in_handler_site, kind_or_nothing}
+use Rattle.type_derive.specs.Programs.{◌before◌}
+use Rattle.type_derive.specs.inner.FilledPrograms.{site, function_made, method_made, initial_made, initials, super_called, made_statements_of, constructor_made, unwritten_made, members_made, class_made, global_made, globals_made, main_made, items_made, library_made}
 
 -- the locals of what is made, and what the functions in it take
 abbrev pub AtMost : {A : Type 0} → ℕ → Making A → Type 0

@@ -18,7 +18,8 @@ use Rattle.sts_whole.proofs.Counted.{over_limit}
 use Rattle.sts_scope.specs.Scopes.{all_names, library_classes, heading_refusal}
 use Rattle.type_derive.specs.Passes.{all_overrides, nodes_failure}
 use Rattle.type_derive.specs.Limits.{limits_failure}
-use Rattle.type_derive.specs.Accepted.{known, typed, refusal, type_refusal, IsAccepted}
+use Rattle.type_derive.specs.Accepted.{known}
+use Rattle.type_derive.specs.inner.FilledTexts.{filled, filled_refusal, IsFilled}
 use Rattle.type_derive.specs.Solved.{IsSolved}
 use Rattle.type_derive.proofs.Laws.{types_exist}
 use Rattle.text_headings.specs.Standing.{IsTextDeclared}
@@ -31,7 +32,9 @@ module _ (tables : Tables) (library text : Program) where
   pub heading_refused : (why : Refused) → RefusedWith why (heading_refusal tables.names library text) → RefusesTrees why tables library text
   heading_refused (r.Program code at) h =
       let (kinds, w) = types_exist tables library text in
-      (kinds, w, ap (λ x. x then type_refusal tables library text kinds) h)
+      let k : Known = known library text kinds in
+      let nodes : Option Failure = all_overrides k (all_names library text) (library_classes library text) k.library text then nodes_failure tables (all_names library text) k (library_classes library text) k.library text in
+      (kinds, w, ap (λ x. (x then nodes) then limits_failure tables.texts (filled tables library text kinds)) h)
   heading_refused r.NoMemory h = tt
 
   module _ (d : Declared) (s : IsSolved tables library text d) where
@@ -49,7 +52,7 @@ module _ (tables : Tables) (library text : Program) where
     found = type_failure tables names d.known d.first_class text
 
     abbrev limits : Option Failure
-    limits = limits_failure tables.texts (typed tables library text d.known.kinds)
+    limits = limits_failure tables.texts (filled tables library text d.known.kinds)
 
     found_is : type_failure tables (all_names library text) k (library_classes library text) text ≡ found
     found_is =
@@ -57,13 +60,8 @@ module _ (tables : Tables) (library text : Program) where
         ∙ ap (λ x. type_failure tables names x (library_classes library text) text) (sym s.known_is)
         ∙ ap (λ x. type_failure tables names d.known x text) (sym s.first_class)
 
-    before : (a b c e : Option Failure) → (a then b) ≡ e → a then b then c ≡ e then c
-    before None b c e h = ap (λ x. x then c) h
-    before (Some f) b c e h = ap (λ x. x then c) h
-
-    refusal_is : heading_refusal tables.names library text ≡ None → refusal tables library text d.known.kinds ≡ found then limits
-    refusal_is h = ap (λ x. x then type_refusal tables library text d.known.kinds) h ∙ before (all_overrides k (all_names library text) (library_classes library text) k.library text)
-        (nodes_failure tables (all_names library text) k (library_classes library text) k.library text) limits found found_is
+    refusal_is : heading_refusal tables.names library text ≡ None → filled_refusal tables library text d.known.kinds ≡ found then limits
+    refusal_is h = ap (λ x. (x then type_failure tables (all_names library text) k (library_classes library text) text) then limits) h ∙ ap (λ x. x then limits) found_is
 
     pub found_refused : (why : Refused) → heading_refusal tables.names library text ≡ None → RefusedWith why found → RefusesTrees why tables library text
     found_refused (r.Program code at) h f = (d.known.kinds, s.derived, refusal_is h ∙ ap (λ x. x then limits) f)
@@ -73,18 +71,18 @@ module _ (tables : Tables) (library text : Program) where
     pub counts_refused : heading_refusal tables.names library text ≡ None → found ≡ None → (why : Refused) → RefusedWith why (unless (counts_fit d.known) OverLimit 0) → RefusesTrees why tables library text
     counts_refused h none (r.Program code at) f =
         let n = numbering (library ++ text) in
-        let over = over_limit tables (all_names library text) k n tables.texts (typed tables library text d.known.kinds) refl refl (record { code = code; at = at })
+        let over = over_limit tables (all_names library text) k n tables.texts (filled tables library text d.known.kinds) refl refl (record { code = code; at = at })
         (ap (λ x. unless (counts_fit x) OverLimit 0) (sym s.known_is) ∙ f) in
         (d.known.kinds, s.derived, refusal_is h ∙ ap (λ x. x then limits) none ∙ over)
     counts_refused h none r.NoMemory f = tt
 
-    module _ (h : heading_refusal tables.names library text ≡ None) (none : found ≡ None) (p : TypedProgram) (is : p ≡ typed tables library text d.known.kinds) where
-      rest_is : refusal tables library text d.known.kinds ≡ limits_failure tables.texts p
+    module _ (h : heading_refusal tables.names library text ≡ None) (none : found ≡ None) (p : TypedProgram) (is : p ≡ filled tables library text d.known.kinds) where
+      rest_is : filled_refusal tables library text d.known.kinds ≡ limits_failure tables.texts p
       rest_is = refusal_is h ∙ ap (λ x. x then limits) none ∙ ap (limits_failure tables.texts) (sym is)
 
       pub limits_refused : (why : Refused) → RefusedWith why (limits_failure tables.texts p) → RefusesTrees why tables library text
       limits_refused (r.Program code at) f = (d.known.kinds, s.derived, rest_is ∙ f)
       limits_refused r.NoMemory f = tt
 
-      pub accepted : limits_failure tables.texts p ≡ None → IsAccepted tables library text p
+      pub accepted : limits_failure tables.texts p ≡ None → IsFilled tables library text p
       accepted f = (d.known.kinds, s.derived, rest_is ∙ f, is)

@@ -21,7 +21,7 @@ use Rattle.sts_scope.specs.declared.known.This.TheVariants as this
 use Rattle.sts_scope.specs.Kinds as kind
 use Rattle.sts_scope.specs.Lookup.{base_of}
 use Rattle.sts_scope.specs.Rules.{maker_takes_of}
-use Rattle.type_derive.specs.Built as b
+use Rattle.type_derive.specs.inner.Filled as b
 use Rattle.type_derive.specs.Programs.{◌before◌}
 use Rattle.type_derive.specs.Heads.{SuperHead, head_of}
 use Rattle.typed_trees.specs.declared.build_places.Builder.{Builder}

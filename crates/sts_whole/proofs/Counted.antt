@@ -22,7 +22,7 @@ use Rattle.sts_syntax.specs.Nodes.{text_bytes, text_weight}
 use Rattle.typed_numbers.specs.Building.{names_upto}
 use Rattle.typed_numbers.specs.Counts.{is_short, counts_fit}
 use Rattle.type_derive.specs.Limits.{limits_failure}
-use Rattle.type_derive.specs.Programs as p
+use Rattle.type_derive.specs.inner.FilledPrograms as p
 
 both : (x y : Bool) → (x && y) ≡ true → (x ≡ true) × (y ≡ true)
 both true y h = (refl, h)

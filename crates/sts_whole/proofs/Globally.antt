@@ -4,7 +4,7 @@ use Rattle.sts_syntax.specs.declared.trees.Binding.{Binding, out-Binding}
 use Rattle.sts_syntax.specs.declared.typed.Spot.TheVariants.{Global}
 use Rattle.sts_syntax.specs.Views.{declaration, optional_annotation, optional_expression}
 use Rattle.sts_syntax.proofs.Laws.{declaration_parts}
-use Rattle.type_derive.specs.Built as b
+use Rattle.type_derive.specs.inner.Filled as b
 use Rattle.typed_trees.specs.declared.build_places.Plan.{Plan}
 use Rattle.typed_trees.specs.Sites as s
 use Rattle.typed_trees.specs.Sites.{made_of}

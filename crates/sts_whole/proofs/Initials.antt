@@ -13,8 +13,9 @@ use Rattle.sts_scope.specs.declared.known.This.TheVariants as this
 use Rattle.sts_scope.specs.Entries.{member_entry}
 use Rattle.sts_scope.specs.Handlers.{member_routines, declared_handlers, routine_handlers}
 use Rattle.text_sizes.specs.Numbered.{declared_numbered}
-use Rattle.type_derive.specs.Built as b
-use Rattle.type_derive.specs.Making.{Made, Making}
+use Rattle.type_derive.specs.inner.Filled as b
+use Rattle.type_derive.specs.Making.{Made}
+use Rattle.type_derive.specs.inner.Filling.{Making}
 use Rattle.typed_numbers.specs.Building.{numbering_of}
 use Rattle.typed_trees.specs.declared.build_places.Builder.{Builder}
 use Rattle.typed_trees.specs.declared.build_places.Plan.{Plan}

@@ -12,6 +12,7 @@ mod LibraryBehind
 mod AcceptedPrograms
 mod OneAnswers
 mod SomeAnswers
+mod FilledTexts
 mod NodePlaces
 mod SpelledPlaces
 mod FailurePlaces

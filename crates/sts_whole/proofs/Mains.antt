@@ -11,7 +11,7 @@ use Rattle.sts_syntax.specs.Views.{declaration, declarations}
 use Rattle.sts_scope.proofs.Laws.{drop_at}
 use Rattle.sts_scope.specs.declared.known.This.TheVariants as this
 use Rattle.sts_scope.specs.Entries.{global_entries, main_entries}
-use Rattle.type_derive.specs.Making.{Making, pure, ◌>=>◌}
+use Rattle.type_derive.specs.inner.Filling.{Making, pure, ◌>=>◌}
 use Rattle.sts_scope.specs.Numbers.{global_number}
 use Rattle.type_derive.specs.Heads.{Declares, lets_of}
 use Rattle.typed_trees.specs.declared.build_places.Builder.{Builder}

@@ -67,7 +67,7 @@ types_same one tables library text xs ys h j =
 module _ (reading : OneReading) (leaves : LibraryLeavesFirst) (one : IsOne) (program : OneProgram) where
   accepted_same : (tables : Tables) (library text : Program) (P P' : TypedProgram) → IsAccepted tables library text P → IsAccepted tables library text P' → P ≡ P'
   accepted_same tables library text P P' h j =
-      h.3 ∙ (ap (λ (kinds : List (Option StaticType)). typed tables library text kinds) (types_same one tables library text h.0 j.0 h.1 j.1) ∙ sym j.3)
+      same_Some P P' (sym h.3 ∙ (ap (λ (kinds : List (Option StaticType)). typed tables library text kinds) (types_same one tables library text h.0 j.0 h.1 j.1) ∙ j.3))
 
   accepted_refused : (tables : Tables) (library text : Program) (P : TypedProgram) (f : Failure) → IsAccepted tables library text P → IsRefused tables library text f → ⊥
   accepted_refused tables library text P f h r =

@@ -6,6 +6,7 @@ use Rattle.sts_base.specs.declared.tables.Tables.{Tables}
 use Rattle.sts_base.specs.declared.refused.Code.TheVariants.{UnknownName, TwiceNamed, NeedsType, ClassCycle, Mismatch, OverLimit}
 use Rattle.sts_syntax.specs.Trees.{Parameter, SuperCall, Statement, Let, Plain, Statements, also, Declaration, Declare, Declarations, ended, next, Routine, Does}
 use Rattle.sts_syntax.specs.Programs.{ClassMember, Field, Method, Constructor, TopLevel, Class, Function, Main, Program}
+use Rattle.sts_syntax.specs.TypedTrees.{TypedProgram}
 use Rattle.sts_scope.specs.declared.kinds.StaticType.{StaticType}
 use Rattle.sts_scope.specs.declared.entries.Owner.{Owner}
 use Rattle.sts_scope.specs.declared.entries.Owner.TheVariants as o
@@ -26,14 +27,14 @@ use Rattle.sts_scope.specs.Headings.{written_failure, takes_name, parameters_fai
 use Rattle.sts_scope.specs.Places.{NameScope, outside}
 use Rattle.sts_scope.specs.Rules.{kind_at, maker_takes_of, all_go}
 use Rattle.sts_scope.specs.Scopes.{all_names, all_entries, all_classes, library_entries, library_classes, heading_refusal}
-use Rattle.type_derive.specs.Typing.{types_of}
+use Rattle.type_derive.specs.Typing.{◌>>=◌, types_of}
 use Rattle.type_derive.specs.Returns.{parameter_locals, within}
 use Rattle.type_derive.specs.Nodes.{initial_failure, own_bound, failures, statements_failure}
 use Rattle.type_derive.specs.Passes.{agrees, overrides_failure, item_overrides, all_overrides, globals_failure, main_failure, body_failure, own_super_call, made_failure, constructor_failure, members_nodes, item_nodes, nodes_failure}
 use Rattle.type_derive.specs.Passes as passes
 use Rattle.typed_limits.specs.Limits.{program_fits}
 use Rattle.type_derive.specs.Limits.{limits_failure}
-use Rattle.type_derive.specs.Accepted.{known, typed, refusal}
+use Rattle.type_derive.specs.Accepted.{known, typed, text_failure, refusal}
 use Rattle.sts_whole.proofs.NodePlaces.{ParametersAt, RoutineAt, DeclarationAt, DeclarationsAt, StatementAt, StatementsAt, MemberAt, MembersAt, ItemAt, ProgramAt}
 use Rattle.sts_whole.proofs.FailurePlaces.{FailsAt, none_in, at_in, then_in, unless_in, own_in, written_in, bound_in, initial_in, failures_in, statement_in, statements_in}
 
@@ -288,14 +289,16 @@ module _ (P : ℕ → Type 0) where
         (nodes_in (c + classes_in i) (d + length (item_entries names c i)) rest h.1)
 
   -- all passes
+  limits_in : (texts : List (List ℕ)) → P 0 → (x : Option TypedProgram) → In (x >>= λ p. limits_failure texts p)
+  limits_in texts start (Some p) = unless_in (program_fits texts p) OverLimit 0 start
+  limits_in texts start None = none_in
+
   pub refusal_in : (tables : Tables) (library text : Program) (kinds : List (Option StaticType)) → P 0 → ProgramAt P text → In (refusal tables library text kinds)
   refusal_in tables library text kinds start h =
       let names = all_names library text in
       let k = known library text kinds in
       let c = library_classes library text in
-      then_in (heading_refusal tables.names library text)
-      (all_overrides k names c k.library text then nodes_failure tables names k c k.library text then limits_failure tables.texts (typed tables library text kinds))
-      (heading_in tables.names library text h)
-      (then_in (all_overrides k names c k.library text) (nodes_failure tables names k c k.library text then limits_failure tables.texts (typed tables library text kinds)) (all_overrides_in k names c k.library text h)
-      (then_in (nodes_failure tables names k c k.library text) (limits_failure tables.texts (typed tables library text kinds)) (nodes_in tables names k c k.library text h)
-      (unless_in (program_fits tables.texts (typed tables library text kinds)) OverLimit 0 start)))
+      then_in (text_failure tables library text kinds) (typed tables library text kinds >>= λ p. limits_failure tables.texts p)
+      (then_in (heading_refusal tables.names library text) (all_overrides k names c k.library text then nodes_failure tables names k c k.library text) (heading_in tables.names library text h)
+      (then_in (all_overrides k names c k.library text) (nodes_failure tables names k c k.library text) (all_overrides_in k names c k.library text h) (nodes_in tables names k c k.library text h)))
+      (limits_in tables.texts start (typed tables library text kinds))

@@ -16,7 +16,9 @@ use Rattle.sts_grammar.specs.Laws.{ProgramIsRead}
 use Rattle.sts_grammar.specs.ReadUnits.{read_program}
 use Rattle.sts_grammar.specs.Texts.{source, BeginsToken}
 use Rattle.sts_grammar.specs.Units.{IsProgram}
-use Rattle.type_derive.specs.Accepted.{AreDerived, refusal, typed, DerivedTypesExist}
+use Rattle.type_derive.specs.Accepted.{AreDerived, DerivedTypesExist}
+use Rattle.type_derive.specs.inner.FilledTexts.{filled, filled_refusal}
+use Rattle.sts_whole.specs.Checking.{FilledIsTyped}
 use Rattle.sts_whole.specs.Accepting.{ReadsText, Accepts, IsRefusedFor}
 use Rattle.sts_lexer.specs.Laws.{SomeReading}
 use Rattle.typed_laws.specs.LibraryLaws.{first, LibraryIsRead}
@@ -54,27 +56,27 @@ first_begins : (front : List Token) (finish : Token) → (place : ℕ) × Begins
 first_begins [] finish = (finish.span.from, record { at = 0; token = finish; is = refl; begins = refl })
 first_begins (token ∷ front) finish = (token.span.from, record { at = 0; token = token; is = refl; begins = refl })
 
-module _ (reading : ProgramIsRead) (types : DerivedTypesExist) (text : List ℕ) (tables : Tables) (library : Program) (tokens : List Token) (read : ReadsText text tables library tokens) where
+module _ (reading : ProgramIsRead) (types : DerivedTypesExist) (typed_so : FilledIsTyped) (text : List ℕ) (tables : Tables) (library : Program) (tokens : List Token) (read : ReadsText text tables library tokens) where
   abbrev Answer : Type 0
   Answer = ((P : TypedProgram) × Accepts text tables P) ⊎ ((why : Code) × (at : ℕ) × IsRefusedFor text why at)
 
   module _ (shallow : NoneDeep tokens) where
     module _ (program : Program) (spelled : IsProgram (source tokens tables) program) where
-      by_refusal : (kinds : List (Option StaticType)) → AreDerived tables library program kinds → (found : Option Failure) → refusal tables library program kinds ≡ found → Answer
+      by_refusal : (kinds : List (Option StaticType)) → AreDerived tables library program kinds → (found : Option Failure) → filled_refusal tables library program kinds ≡ found → Answer
       by_refusal kinds derived None e =
           inl (
-            typed tables library program kinds,
-            record { library = library; tokens = tokens; read = read; shallow = shallow; program = program; spelled = spelled; accepted = (kinds, derived, e, refl) },
+            filled tables library program kinds,
+            record { library = library; tokens = tokens; read = read; shallow = shallow; program = program; spelled = spelled; accepted = typed_so.accepted text tables library tokens program (filled tables library program kinds) read (kinds, derived, e, refl) },
           )
       by_refusal kinds derived (Some fault) e =
           inr (
             fault.code,
             fault.at,
-            inr (inr (record { tables = tables; library = library; tokens = tokens; read = read; shallow = shallow; program = program; spelled = spelled; refused = (kinds, derived, e) })),
+            inr (inr (record { tables = tables; library = library; tokens = tokens; read = read; shallow = shallow; program = program; spelled = spelled; refused = typed_so.refused text tables library tokens program fault read (kinds, derived, e) })),
           )
 
       program_answer : Answer
-      program_answer = (let k = types tables library program in by_refusal k.0 k.1 (refusal tables library program k.0) refl)
+      program_answer = (let k = types tables library program in by_refusal k.0 k.1 (filled_refusal tables library program k.0) refl)
 
     by_tree : (found : Option Program) → read_program (source tokens tables) ≡ found → Answer
     by_tree (Some program) e = program_answer program (reading.read (source tokens tables) program e)
@@ -94,8 +96,8 @@ module _ (reading : ProgramIsRead) (types : DerivedTypesExist) (text : List ℕ)
   answered : Answer
   answered = by_deep (deep_or_not tokens (length tokens) (omega arith))
 
-pub some_answer : ProgramIsRead → DerivedTypesExist → SomeAnswer
-some_answer reading types = λ text tables library tokens read. answered reading types text tables library tokens read
+pub some_answer : ProgramIsRead → DerivedTypesExist → FilledIsTyped → SomeAnswer
+some_answer reading types typed_so = λ text tables library tokens read. answered reading types typed_so text tables library tokens read
 
 -- the library is read first, and then the text behind it, which has tokens or is refused for want of them
 pub has_one : LibraryIsRead → SomeReading → SomeAnswer → OneAnswer → TextHasOneAnswer

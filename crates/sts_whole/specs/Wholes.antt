@@ -20,11 +20,12 @@ use Rattle.sts_scope.specs.Entries.{parameter_kinds, classes_in, item_entries}
 use Rattle.sts_scope.specs.Places.{outside}
 use Rattle.sts_scope.specs.Scopes.{is_global}
 use Rattle.sts_scope.specs.Rules.{kind_at, maker_takes_of}
-use Rattle.type_derive.specs.Built as b
+use Rattle.type_derive.specs.inner.Filled as b
 use Rattle.sts_scope.specs.Handlers.{item_routines, all_routines}
-use Rattle.type_derive.specs.Making.{Made, Making, pure, ◌>=>◌}
+use Rattle.type_derive.specs.Making.{Made}
+use Rattle.type_derive.specs.inner.Filling.{Making, pure, ◌>=>◌}
 use Rattle.sts_scope.specs.Numbers.{place_among, field_names}
-use Rattle.type_derive.specs.Programs as p
+use Rattle.type_derive.specs.inner.FilledPrograms as p
 use Rattle.type_derive.specs.Programs.{◌before◌}
 use Rattle.typed_numbers.specs.Building.{numbering_of}
 use Rattle.sts_whole.specs.declared.build_parts.ClassParts.{ClassParts}

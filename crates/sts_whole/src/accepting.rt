@@ -6,6 +6,7 @@ ghost use Rattle.sts_syntax.specs.TypedViews.{typed_program};
 ghost use Rattle.sts_whole.specs.Accepting.{ReadsText, Accepts, RefusesText};
 ghost use Rattle.sts_whole.specs.Few.{HasFewParts};
 
+use crate::accepted_programs::filled_programs_are_typed;
 use crate::checking::check;
 use parse_unit::parse;
 use std::alloc::Global;
@@ -30,6 +31,7 @@ fn accept_tokens(
         → RefusesText text why) }
 {
     let text = parse(alloc, tokens, tables)?;
+    filled_programs_are_typed();
     check(alloc, library, &text, tables)
 }
 

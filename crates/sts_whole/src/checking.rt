@@ -6,7 +6,7 @@ ghost use Rattle.sts_base.specs.declared.refused.Code.TheVariants.{OverLimit};
 ghost use Rattle.sts_scope.specs.Failures.{Finds, unless};
 ghost use Rattle.typed_numbers.specs.Counts.{counts_fit};
 ghost use Rattle.type_derive.specs.Limits.{limits_failure};
-ghost use Rattle.type_derive.specs.Accepted.{IsAccepted};
+ghost use Rattle.type_derive.specs.inner.FilledTexts.{IsFilled};
 ghost use Rattle.sts_whole.specs.Checking.{RefusesTrees};
 ghost use Rattle.sts_whole.specs.Few.{AreFew};
 
@@ -44,7 +44,7 @@ fn check_counts(alloc: Global, known: &Environment) -> Result<(), Refused>
 /// counted limit is passed. The library itself is never refused.
 pub fn check(alloc: Global, library: &Unit, text: &Unit, tables: &Tables) -> Result<Typed, Refused>
     requires few { AreFew (program library.now) (program text.now) }
-    ensures accepted { IfOk result (λ t. IsAccepted tables.now (program library.now) (program text.now)
+    ensures accepted { IfOk result (λ t. IsFilled tables.now (program library.now) (program text.now)
         (typed_program t)) }
     ensures refused { IfErr result (λ why. RefusesTrees why tables.now (program library.now) (program text.now)) }
 {

@@ -10,5 +10,6 @@ returns c =
       leaves = c.library_leaves_first.ensures;
       prelude = c.prelude_is_library.ensures;
       light = c.typed_library_is_light.ensures;
+      built = c.texts_without_a_failure_are_built.ensures.built;
       well_typed = c.accepted_texts_are_well_typed.ensures;
     })

@@ -1,5 +1,6 @@
 use Rattle.std.proofs.lemmas.Result.{IfOk-weaker, IfErr-weaker}
 use Rattle.sts_syntax.specs.Programs.{program}
+use Rattle.sts_syntax.specs.TypedViews.{typed_program}
 use Rattle.sts_whole.proofs.Accepted.{program_refused}
 use Rattle.sts_whole.proofs.Few.{both_few, spelled_few}
 use Rattle.sts_whole.proofs.accepting.accept_tokens.Goals as goal
@@ -20,7 +21,7 @@ returns-clause-accepted c =
       shallow = c.in_ok-text.ensures.0;
       program = program c.in_ok-text.text;
       spelled = c.in_ok-text.ensures.1;
-      accepted = accepted;
+      accepted = c.filled_programs_are_typed.ensures.accepted text c.args.tables.now (program c.args.library.now) c.args.tokens.now (program c.in_ok-text.text) (typed_program typed) read accepted;
     })
     c.check.ensures.accepted
 
@@ -28,5 +29,5 @@ pub returns-clause-refused : goal.returns-clause-refused
 returns-clause-refused c =
     IfErr-weaker c.check.result _ _
     (λ why refused text read.
-    program_refused why text c.args.tables.now (program c.args.library.now) c.args.tokens.now (program c.in_ok-text.text) read c.in_ok-text.ensures.0 c.in_ok-text.ensures.1 refused)
+    program_refused c.filled_programs_are_typed.ensures why text c.args.tables.now (program c.args.library.now) c.args.tokens.now (program c.in_ok-text.text) read c.in_ok-text.ensures.0 c.in_ok-text.ensures.1 refused)
     c.check.ensures.refused

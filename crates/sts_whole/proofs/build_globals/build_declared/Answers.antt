@@ -3,8 +3,8 @@ use Rattle.sts_syntax.specs.TypedTrees.{TypedDeclaration}
 use Rattle.sts_syntax.specs.TypedViews.{typed_declaration}
 use Rattle.sts_syntax.specs.Views.{declaration}
 use Rattle.sts_scope.specs.declared.known.This.TheVariants as this
-use Rattle.type_derive.specs.Built as b
-use Rattle.type_derive.specs.Making.{Making}
+use Rattle.type_derive.specs.inner.Filled as b
+use Rattle.type_derive.specs.inner.Filling.{Making}
 use Rattle.typed_trees.specs.Steps.{IsBuilt}
 use Rattle.sts_whole.specs.Wholes as w
 use Rattle.sts_whole.proofs.Mains.{declared_is}

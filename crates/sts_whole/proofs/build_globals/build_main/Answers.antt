@@ -2,7 +2,7 @@ use Rattle.std.proofs.Common.{refl, sym, subst, arith}
 use Rattle.sts_syntax.specs.TypedTrees.{TypedStatement}
 use Rattle.sts_syntax.specs.TypedViews.{typed_statement}
 use Rattle.sts_syntax.specs.Views.{declarations, statement}
-use Rattle.type_derive.specs.Making.{Making}
+use Rattle.type_derive.specs.inner.Filling.{Making}
 use Rattle.typed_trees.specs.Steps.{IsBuilt}
 use Rattle.sts_whole.proofs.Mains.{main_without, main_with, main_long}
 use Rattle.sts_whole.proofs.build_globals.build_main.Goals as goal

@@ -4,7 +4,7 @@ use Rattle.sts_syntax.specs.TypedTrees.{TypedStatement, TypedStatements}
 use Rattle.sts_syntax.specs.TypedViews.{typed_statement, typed_statements, typed_trees}
 use Rattle.sts_syntax.specs.Views.{trees, statement, statements}
 use Rattle.sts_scope.specs.declared.kinds.StaticType.{StaticType}
-use Rattle.type_derive.specs.Making.{Making}
+use Rattle.type_derive.specs.inner.Filling.{Making}
 use Rattle.typed_trees.specs.Sites as s
 use Rattle.typed_trees.specs.Steps.{IsBuilt}
 use Rattle.sts_whole.specs.Wholes as w
