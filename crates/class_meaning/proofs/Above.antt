@@ -1,5 +1,5 @@
 -- Runs of a class of boards that implement others.
-use Rattle.std.proofs.Common.{◌≡◌, ℕ, suc, ◌+◌, ◌*◌, ◌≤◌, ◌<◌, ◌⊎◌, true, false, List, [], ◌∷◌, ◌++◌, length, refl, ap, sym, ◌∙◌, subst, arith}
+use Rattle.std.proofs.Common.{◌≡◌, ℕ, suc, ◌+◌, ◌*◌, ◌≤◌, ◌<◌, ◌⊎◌, true, false, List, [], ◌∷◌, ◌++◌, refl, ap, sym, ◌∙◌, subst, arith}
 use Rattle.std.proofs.Common.{inl, inr}
 use Rattle.std.proofs.Math.Nat.{mul-le-mul_left}
 use Rattle.std.proofs.lemmas.Bool.{cases_lt}
@@ -10,16 +10,9 @@ use Rattle.board_world.specs.Simulation.{Paired}
 use Rattle.class_world.specs.Classes.{Member, Class, Played, world_of, Passes, IsRunTo}
 use Rattle.class_world.specs.Implementing.{MemberImplements, class_of, ShowsSame}
 use Rattle.class_world.specs.Lines.{whole_text, cut_text}
-use Rattle.class_steps.specs.Texts.{boards_now, HasWholeText, HasCutText}
+use Rattle.class_steps.specs.Texts.{boards_now, HasWholeText, HasSpentText}
 use Rattle.class_world.proofs.Laws.{run_above}
 use Rattle.class_meaning.specs.Meaning.{MeansWhole, MeansCut}
-
--- lists that are related are as long
-paired_length : {X Y : Type 0} (R : X → Y → Type 0) (xs : List X) (ys : List Y) → Paired R xs ys → length xs ≡ length ys
-paired_length R [] [] h = refl
-paired_length R [] (y ∷ ys) h = absurd h
-paired_length R (x ∷ xs) [] h = absurd h
-paired_length R (x ∷ xs) (y ∷ ys) h = ap suc (paired_length R xs ys h.1)
 
 -- what holds of each of the second holds of each of the first
 paired_all : {X Y : Type 0} (R : X → Y → Type 0) (P : X → Type 0) (Q : Y → Type 0) → ((x : X) (y : Y) → R x y → Q y → P x) → (xs : List X) (ys : List Y) → Paired R xs ys → AllByRecursion Q ys → AllByRecursion P xs
@@ -47,8 +40,8 @@ in_three {X} {Y} R (x ∷ xs) (y ∷ ys) here above h =
     record { first = x ∷ ih.first; one = ih.one; rest = ih.rest; is = ap (λ (l : List X). x ∷ l) ih.is; low = (h.0, ih.low); mid = ih.mid; high = ih.high })
 
 -- the same boards write the same
-same_cut : (n m : ℕ) (b c : Board) (below low all whole : List Board) → n ≡ m → b ≡ c → below ≡ low → all ≡ whole → cut_text n b below all ≡ cut_text m c low whole
-same_cut n m b c below low all whole e f g h = cc
+same_cut : (b c : Board) (ws vs us xs : List Board) → b ≡ c → ws ≡ vs → us ≡ xs → cut_text ws b us ≡ cut_text vs c xs
+same_cut b c ws vs us xs e f g = cc
 
 module _ {A S C D : Type 0} (bound until : ℕ) where
   same_boards : (ps : List (Played A S)) (qs : List (Played C D)) → Paired (ShowsSame bound until) ps qs → boards_now until ps ≡ boards_now until qs
@@ -92,29 +85,31 @@ module _ {A S C D : Type 0} (bound : ℕ) (members : List (Member A S)) (L : Cla
         same = same;
       })
 
-  pub means_cut : HasCutText L budget text → MeansCut bound members L budget text
-  means_cut c =
-      (let t = (world_of L.until c.here).board.clock in
-      let all = c.below ++ c.here ∷ c.above in
+  pub means_cut : HasSpentText L budget text → MeansCut bound members L budget text
+  means_cut spent =
+      (let c = spent.0 in
+      let t = (world_of L.until c.here).board.clock in
+      let all = c.before ++ c.here ∷ c.behind in
       let up = run_above bound members L pairs t all c.cut.runs in
-      let parts = in_three (ShowsSame bound L.until) up.0 c.below c.here c.above up.1 in
+      let parts = in_three (ShowsSame bound L.until) up.0 c.before c.here c.behind up.1 in
       let clock : t ≡ (world_of L.until parts.one).board.clock = ap (λ (b : Board). b.clock) (sym parts.mid.board) in
       let whole = parts.first ++ parts.one ∷ parts.rest in
       let runs : IsRunTo (class_of members L) t whole = subst (λ (ps : List (Played A S)). IsRunTo (class_of members L) t ps) parts.is up.2 in
-      let same : boards_now L.until whole ≡ boards_now L.until all = ap (boards_now L.until) (sym parts.is) ∙ same_boards bound L.until up.0 all up.1 in
-      let low : boards_now L.until parts.first ≡ boards_now L.until c.below = same_boards bound L.until parts.first c.below parts.low in
-      let number : length parts.first ≡ length c.below = paired_length (ShowsSame bound L.until) parts.first c.below parts.low in
+      let low : boards_now L.until parts.first ≡ boards_now L.until c.before = same_boards bound L.until parts.first c.before parts.low in
+      let high : boards_now L.until parts.rest ≡ boards_now L.until c.behind = same_boards bound L.until parts.rest c.behind parts.high in
       record {
-        below = parts.first;
-        here = parts.one;
-        above = parts.rest;
-        cut = record {
-          runs = subst (λ (s : ℕ). IsRunTo (class_of members L) s whole) clock runs;
-          passed = subst (λ (s : ℕ). AllByRecursion (λ (p : Played A S). Passes (suc s) (world_of L.until p)) parts.first) clock
-              (paired_all (ShowsSame bound L.until) _ _ (passes_same bound L.until (suc t)) parts.first c.below parts.low c.cut.passed);
-          goes = ap over parts.mid.board ∙ c.cut.goes;
+        has = record {
+          before = parts.first;
+          here = parts.one;
+          behind = parts.rest;
+          cut = record {
+            runs = subst (λ (s : ℕ). IsRunTo (class_of members L) s whole) clock runs;
+            passed = subst (λ (s : ℕ). AllByRecursion (λ (p : Played A S). Passes (suc s) (world_of L.until p)) parts.first) clock
+                (paired_all (ShowsSame bound L.until) _ _ (passes_same bound L.until (suc t)) parts.first c.before parts.low c.cut.passed);
+            goes = ap over parts.mid.board ∙ c.cut.goes;
+          };
+          within = subst (λ (ps : List (Played A S)). AllByRecursion (λ (p : Played A S). p.steps ≤ budget) ps) parts.is (paired_all (ShowsSame bound L.until) _ _ (fewer bound L.until budget) up.0 all up.1 c.within);
+          is = c.is ∙ same_cut _ _ _ _ _ _ (sym parts.mid.board) (sym low) (sym high);
         };
-        within = subst (λ (ps : List (Played A S)). AllByRecursion (λ (p : Played A S). p.steps ≤ budget) ps) parts.is (paired_all (ShowsSame bound L.until) _ _ (fewer bound L.until budget) up.0 all up.1 c.within);
-        at_least = enough bound L.until budget parts.one c.here parts.mid c.steps c.cut.goes;
-        is = c.is ∙ same_cut _ _ _ _ _ _ _ _ (sym number) (sym parts.mid.board) (sym low) (sym same);
+        at_least = enough bound L.until budget parts.one c.here parts.mid spent.1 c.cut.goes;
       })

@@ -1,22 +1,14 @@
 -- What a class writes, told by the class of other boards that its boards implement.
-use Rattle.std.specs.Prelude.{◌≡◌, ℕ, ◌*◌, ◌≤◌, List, ◌∷◌, ◌++◌, length}
-use Rattle.std.specs.List.{AllByRecursion}
+use Rattle.std.specs.Prelude.{◌≡◌, ℕ, ◌*◌, ◌≤◌, List}
 use Rattle.board_world.specs.Observations.{ByteList}
-use Rattle.class_world.specs.Classes.{Member, Class, Played, IsRunUpTo, world_of}
+use Rattle.class_world.specs.Classes.{Member, Class, Played}
 use Rattle.class_world.specs.Implementing.{class_of}
-use Rattle.class_world.specs.Lines.{cut_text}
-use Rattle.class_steps.specs.Texts.{boards_now, HasWholeText}
+use Rattle.class_steps.specs.Texts.{boards_now, HasWholeText, HasCutText}
 
 -- No board of a class has made more than so many steps; one, which goes on, has made one at least for each `bound` of them, and this is the class's text.
 pub record HasTextCutWithin {A S : Type 0} (C : Class A S) (bound budget : ℕ) (text : ByteList) : Type 0 where
-  pub below : List (Played A S)
-  pub here : Played A S
-  pub above : List (Played A S)
-  pub cut : IsRunUpTo C below here above
-  pub within : AllByRecursion (λ (p : Played A S). p.steps ≤ budget) (below ++ here ∷ above)
-  pub at_least : (n : ℕ) → bound * n ≤ budget → n ≤ here.steps
-  pub is : text ≡ cut_text (length below) (world_of C.until here).board (boards_now C.until below)
-      (boards_now C.until (below ++ here ∷ above))
+  pub has : HasCutText C budget text
+  pub at_least : (n : ℕ) → bound * n ≤ budget → n ≤ has.here.steps
 
 module _ {A S C D : Type 0} where
   -- The text of these runs is the whole one of a class of the other boards, whose runs come to the same.

@@ -2,7 +2,7 @@
 use Rattle.std.proofs.Common.{◌≡◌, ℕ, zero, suc, ◌+◌, ◌≤◌, ◌<◌, ◌⊎◌, inl, inr, Bool, true, false, if◌then◌else◌, nat_lt, List, [], ◌∷◌, ◌++◌, length, Option, Some, None, is_some, refl, ap, sym, ◌∙◌, subst, arith, append-nil, append_assoc}
 use Rattle.std.proofs.lemmas.Bool.Decides.{nat_tests}
 use Rattle.std.specs.Prelude.{IfSome, codes}
-use Rattle.board_world.specs.Transcript.{count_text}
+use Rattle.class_world.specs.Lines.{board_lead}
 use Rattle.std.specs.Option.{option_map}
 use Rattle.std.proofs.lemmas.Fmt.{decimal_digit}
 use Rattle.board_world.specs.declared.events.Event.{Event}
@@ -31,11 +31,10 @@ use Rattle.board_outside.specs.Moves.{Move, seen_of}
 use Rattle.board_run.specs.declared.engine.Engine.{Engine}
 use Rattle.board_run.specs.declared.end.Stop.{Stop}
 use Rattle.board_run.specs.Shown.{of_key}
-use Rattle.board_run.specs.Advancing.{IsWhole}
-use Rattle.board_run.specs.Going.{queued_all, entries_left, next_moment, IsDueAt, Shows}
+use Rattle.board_run.specs.Advancing.{IsWhole, IsBusy}
+use Rattle.board_run.specs.Going.{queued_all, next_moment, IsDueAt, Shows}
+use Rattle.board_run.specs.Represents.{entries_left, state_of, end_of}
 use Rattle.board_run.specs.Gone.{MayGo}
-use Rattle.board_run.specs.Proceeding.{IsBusy}
-use Rattle.board_run.specs.View.{state_of, end_of}
 use Rattle.board_run.proofs.Laws.{mounted_busy, nobody_ready, due_rising}
 use Rattle.class_radio.specs.declared.player.Player.{Player}
 use Rattle.class_radio.specs.Playing.{Setup, member_of, run_given, standing_of, IsNumbered, outlook, IsInWait, HasPlayed, IsFresh, HasCome}
@@ -308,7 +307,7 @@ module _ (number budget : ℕ) (setup : Setup) (script : List Entry) (t : ℕ) (
       by_come (inr f) = begun f.0 f.1 f.2 f.3 f.4
 
 -- a number below 10 has one digit
-digit_text : (n : ℕ) → n < 10 → (48 + n) ∷ (32 ∷ []) ≡ count_text n ++ codes " "
+digit_text : (n : ℕ) → n < 10 → (48 + n) ∷ (32 ∷ []) ≡ board_lead n
 digit_text n h = sym (ap (λ (l : List ℕ). l ++ codes " ") (decimal_digit n h))
 
 -- what is left of its budget is no more than that

@@ -11,7 +11,7 @@ use Rattle.board_run.specs.declared.end.Stop.TheVariants.{Quiet, Script, Panic, 
 use Rattle.class_radio.specs.declared.player.Player.{Player}
 use Rattle.class_radio.specs.declared.player.Standing.{Standing}
 use Rattle.class_radio.specs.declared.player.Standing.TheVariants.{Panicked, Faulted}
-use Rattle.board_run.specs.View.{end_of}
+use Rattle.board_run.specs.Represents.{end_of}
 use Rattle.class_radio.specs.Playing.{standing_of}
 use Rattle.class_radio.specs.Stepped.{Past, IsAtMoment, EachBoard, outlooks}
 use Rattle.class_radio.specs.Outcome.{is_panic, is_fault, how_many_end}

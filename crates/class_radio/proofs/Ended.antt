@@ -18,7 +18,7 @@ use Rattle.class_world.specs.Hearing.{moment_of, before}
 use Rattle.class_world.specs.Classes.{Class, Played, starting, world_of, world_before, seen_by, Hear, AreInOrder, IsRunUpTo}
 use Rattle.class_world.specs.Lines.{numbered, seen_at, is_stopped, stopped_at, lines_at, moment_lines, lines_before, cut_text, WroteSame}
 use Rattle.class_world.proofs.Laws.{lines_same}
-use Rattle.class_steps.specs.Texts.{Reached}
+use Rattle.class_steps.specs.Texts.{Reached, boards_now}
 use Rattle.class_steps.proofs.Laws.{is_cut, text_is, begins_text}
 use Rattle.class_radio.specs.declared.run.ClassEnd.{ClassEnd}
 use Rattle.class_radio.specs.declared.run.ClassEnd.TheVariants.{Done, Budget, SinkFault}
@@ -26,7 +26,7 @@ use Rattle.class_radio.specs.declared.player.Player.{Player}
 use Rattle.class_radio.specs.Playing.{Setup, run_given, outlook}
 use Rattle.class_radio.specs.Stepping.{world_behind, WasCut, WasBroken}
 use Rattle.class_radio.specs.Losses.{lost_by}
-use Rattle.class_radio.specs.Outcome.{members_of, class_of_parts, boards_of, HasSpent, IsStopped, RanClass}
+use Rattle.class_radio.specs.Outcome.{members_of, class_of_parts, HasSpent, IsStopped, RanClass}
 use Rattle.class_radio.specs.Stepped.{ClassPlan, IsSoundPlan, Past, setups_in, seens, shown_boards, IsAtMoment, Passed, EachBoard, AreIn}
 use Rattle.class_radio.specs.Stopping.{FailedLast, EndsIn, HasGoneOn, IsEnded}
 use Rattle.class_radio.proofs.Boards.{each_long, heard_same, heard_scripts, setups_split, shown_append, wrote_at}
@@ -243,11 +243,11 @@ module _ (plan : ClassPlan) (sound : IsSoundPlan plan) (began : Option (List ℕ
                 ∙ ap (λ (l : List (List Observation)). before t b.seen ∷ l) (from_below ps bs h.1)
 
         pub cut : IsRunUpTo C below one above
-        cut = is_cut C t below above one (shown_boards gone first) (shown_boards still rest) P (length gone) boards hear e_runs passed came goes some clock
+        cut = is_cut C t below above one (shown_boards gone first) (shown_boards still rest) P (length gone) boards hear e_runs passed came number_is goes some clock
 
-        text : cut_text (length gone) (world_of plan.until one).board (boards_of plan.until below) (boards_of plan.until (below ++ one ∷ above))
+        text : cut_text (boards_now plan.until below) (world_of plan.until one).board (boards_now plan.until above)
             ≡ lines_before t (shown_boards gone first ++ V.board ∷ shown_boards still rest) ++ (moment_lines t 0 (shown_boards gone first) ++ (seen_at t (length gone) V.board.seen ++ numbered (length gone) (closing_line t None)))
-        text = text_is C t below above one (shown_boards gone first) (shown_boards still rest) P (length gone) boards hear e_runs passed came goes some clock
+        text = text_is C t below above one (shown_boards gone first) (shown_boards still rest) P (length gone) boards hear e_runs passed came number_is goes some clock
 
         regroup : (a b c d : ByteList) → ((a ++ b) ++ c) ++ d ≡ a ++ (b ++ (c ++ d))
         regroup a b c d = append_assoc (a ++ b) c d ∙ append_assoc a b (c ++ d)
@@ -256,13 +256,9 @@ module _ (plan : ClassPlan) (sound : IsSoundPlan plan) (began : Option (List ℕ
             → HasSpent plan.setups plan.losses plan.until plan.budget (length gone) began taken
         spent mid taken made seen closed = record {
           frees = frees;
-          below = below;
-          here = one;
-          above = above;
-          cut = cut;
+          text = cut_text (boards_now plan.until below) (world_of plan.until one).board (boards_now plan.until above);
+          has = (record { before = below; here = one; behind = above; cut = cut; within = low (omega (arith, made)); is = refl }, made);
           at = number_is;
-          steps = made;
-          within = low (omega (arith, made));
           written = subst (Took began taken) (regroup (lines_before t (shown_boards gone first ++ V.board ∷ shown_boards still rest)) (moment_lines t 0 (shown_boards gone first)) (seen_at t (length gone) V.board.seen) (numbered (length gone) (closing_line t None)) ∙ sym text) (took-then _ _ (took-then _ _ took seen) closed);
         }
 
@@ -270,16 +266,8 @@ module _ (plan : ClassPlan) (sound : IsSoundPlan plan) (began : Option (List ℕ
             → IsStopped plan.setups plan.losses plan.until plan.budget began taken
         spent_part mid taken made seen closed = record {
           frees = frees;
-          text = cut_text (length gone) (world_of plan.until one).board (boards_of plan.until below) (boards_of plan.until (below ++ one ∷ above));
-          is = inr (record {
-            below = below;
-            here = one;
-            above = above;
-            cut = cut;
-            steps = made;
-            within = low (omega (arith, made));
-            is = ap (λ (n : ℕ). cut_text n (world_of plan.until one).board (boards_of plan.until below) (boards_of plan.until (below ++ one ∷ above))) (sym number_is);
-          });
+          text = cut_text (boards_now plan.until below) (world_of plan.until one).board (boards_now plan.until above);
+          is = inr (record { before = below; here = one; behind = above; cut = cut; within = low (omega (arith, made)); is = refl }, made);
           written = subst (TookPart began taken) (regroup (lines_before t (shown_boards gone first ++ V.board ∷ shown_boards still rest)) (moment_lines t 0 (shown_boards gone first)) (seen_at t (length gone) V.board.seen) (numbered (length gone) (closing_line t None)) ∙ sym text) (part-then _ _ (took-then _ _ took seen) closed);
         }
 

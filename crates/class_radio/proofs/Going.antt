@@ -7,7 +7,7 @@ use Rattle.std.specs.List.{AllByRecursion}
 use Rattle.board_ports.specs.Account.{Account}
 use Rattle.board_ports.specs.declared.sure.SureDevice.{SureDevice}
 use Rattle.board_world.specs.Observations.{ByteList, Observation}
-use Rattle.board_world.specs.Transcript.{line, closing_line, count_text}
+use Rattle.board_world.specs.Transcript.{line, closing_line}
 use Rattle.board_world.specs.Rules.{earlier}
 use Rattle.board_world.specs.Board.{Board as WorldBoard, Entry, next_entry, over}
 use Rattle.board_world.specs.Waiting.{least}
@@ -30,11 +30,10 @@ use Rattle.board_outside.specs.Cuts.{TookInto}
 use Rattle.board_outside.proofs.Laws.{seen_of-append}
 use Rattle.board_run.specs.declared.board.Board.{Board}
 use Rattle.board_run.specs.declared.end.Stop.{Stop}
-use Rattle.board_run.specs.Advancing.{led_lines}
-use Rattle.board_run.specs.Proceeding.{IsBusy}
+use Rattle.board_run.specs.Advancing.{led_lines, IsBusy}
 use Rattle.board_run.specs.Going.{next_moment, LeadsTo, Sees}
 use Rattle.board_run.specs.Gone.{HasGone, IsIdle, IsCutShort, IsCutLast, Went}
-use Rattle.board_run.specs.View.{state_of, end_of}
+use Rattle.board_run.specs.Represents.{state_of, end_of}
 use Rattle.board_run.proofs.Laws.{nobody_ready, first_ready, some_turning, next_shown}
 use Rattle.board_run.specs.declared.end.Stop.TheVariants.{Panic as StopPanic, Fault as StopFault}
 use Rattle.board_run.specs.declared.end.End.TheVariants.{Quiet, Script, Panic, Budget, Fault, SinkFault}
@@ -242,7 +241,6 @@ module _ (number budget : ℕ) (setup : Setup) (script : List Entry) (t : ℕ) (
         ∙ ap (λ c. if not c && (new.board.engine.clock == t) then numbered number (closing_line new.board.engine.clock (Some (end_of stop))) else []) sound
         ∙ ap (λ c. if c == t then numbered number (closing_line c (Some (end_of stop))) else []) same
         ∙ ap (λ c. if c then numbered number (closing_line t (Some (end_of stop))) else []) here
-        ∙ sym (append_assoc (count_text number) (codes " ") (closing_line t (Some (end_of stop))))
         ∙ ap (λ l. l ++ closing_line t (Some (end_of stop))) (sym may.numbered.lead))
 
     stop_sound : is_by_clock (Some (end_of stop)) ≡ false

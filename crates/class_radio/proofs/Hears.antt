@@ -15,7 +15,7 @@ use Rattle.bank_model.specs.BoardMachine.{fibers}
 use Rattle.board_run.specs.declared.end.Stop.{Stop}
 use Rattle.board_run.specs.declared.end.Stop.TheVariants.{Quiet, Script, Panic, Fault}
 use Rattle.board_run.specs.Going.{queued_all, next_moment}
-use Rattle.board_run.specs.View.{end_of}
+use Rattle.board_run.specs.Represents.{end_of}
 use Rattle.class_radio.specs.declared.player.Player.{Player}
 use Rattle.class_radio.specs.declared.player.Standing.{Standing}
 use Rattle.class_radio.specs.declared.player.Standing.TheVariants.{Plays, Panicked, Faulted}

@@ -1,27 +1,25 @@
 -- The closing lines of players are those of what they look like.
 use Rattle.std.proofs.Common.{◌≡◌, ℕ, zero, suc, ◌+◌, ◌≤◌, ◌<◌, Bool, true, false, not, ◌&&◌, ◌||◌, if◌then◌else◌, List, [], ◌∷◌, ◌++◌, length, take, drop, get_or, max, Option, Some, None, is_some, Result, Ok, Err, refl, ap, sym, ◌∙◌, subst, arith, append_assoc}
 use Rattle.std.proofs.lemmas.List.{take_more, append-nil, length-take-le, take-append-drop, take_all}
-use Rattle.std.specs.Prelude.{codes}
 use Rattle.std.specs.Option.{option_map}
 use Rattle.board_world.specs.Observations.{ByteList, Observation}
-use Rattle.board_world.specs.Transcript.{count_text}
+use Rattle.class_world.specs.Lines.{board_lead, numbered, is_stopped, latest, closing_lines}
 use Rattle.board_world.specs.Before.{is_by_clock}
 use Rattle.tool_io.specs.Putting.{Puts}
 use Rattle.tool_io.proofs.Laws.{puts-then, puts-more, puts-as}
-use Rattle.class_world.specs.Lines.{numbered, is_stopped, latest, closing_lines}
 use Rattle.class_steps.specs.Outlook.{looks, some_next, last_line}
 use Rattle.board_run.specs.declared.end.Stop.{Stop}
 use Rattle.board_run.specs.declared.end.Stop.TheVariants.{Quiet, Script, Panic, Fault}
 use Rattle.class_radio.specs.declared.player.Player.{Player}
 use Rattle.class_radio.specs.declared.player.Standing.{Standing}
-use Rattle.board_run.specs.View.{end_of}
+use Rattle.board_run.specs.Represents.{end_of}
 use Rattle.class_radio.specs.Playing.{standing_of, outlook}
 use Rattle.class_radio.specs.Stepped.{outlooks}
 use Rattle.class_radio.specs.Closing.{IsLed, AreLed, some_due, latest_clock, last_line_of, end_line_of, ends_of, stands_same, how_many_stand}
 
 -- a line behind the lead of a number
-pub led_line : (number : ℕ) (lead got text : ByteList) → got ≡ lead → lead ≡ count_text number ++ codes " " → got ++ text ≡ numbered number text
-led_line number lead got text e f = ap (λ (l : ByteList). l ++ text) (e ∙ f) ∙ append_assoc (count_text number) (codes " ") text
+pub led_line : (number : ℕ) (lead got text : ByteList) → got ≡ lead → lead ≡ board_lead number → got ++ text ≡ numbered number text
+led_line number lead got text e f = ap (λ (l : ByteList). l ++ text) (e ∙ f)
 
 -- step by step
 latest_append : (xs : List Player) (x : Player) → latest_clock (xs ++ x ∷ []) ≡ max (latest_clock xs) x.board.engine.clock

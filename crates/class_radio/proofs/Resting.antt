@@ -16,7 +16,7 @@ use Rattle.class_steps.specs.Outlook.{next_with}
 use Rattle.class_steps.proofs.Laws.{waits_longer, same_later, seen_early}
 use Rattle.board_run.specs.declared.end.Stop.{Stop}
 use Rattle.board_run.specs.Going.{queued_all, next_moment}
-use Rattle.board_run.specs.View.{end_of}
+use Rattle.board_run.specs.Represents.{end_of}
 use Rattle.class_radio.specs.declared.player.Player.{Player}
 use Rattle.class_radio.specs.Playing.{Setup, run_given, outlook, IsInWait, HasPlayed}
 

@@ -3,15 +3,13 @@ use Rattle.std.proofs.Common.{◌≡◌, ℕ, suc, ◌+◌, ◌≤◌, ◌<◌, 
 use Rattle.std.proofs.lemmas.Bool.Decides.{nat_tests}
 use Rattle.std.proofs.Math.Seq.{take-append_seam}
 use Rattle.std.proofs.lemmas.List.{take_all}
-use Rattle.std.specs.Prelude.{codes}
 use Rattle.std.specs.List.{AllByRecursion}
 use Rattle.board_world.specs.Observations.{ByteList, Observation, Show, Serial, Pin, Radio}
-use Rattle.board_world.specs.Transcript.{line, count_text}
+use Rattle.board_world.specs.Transcript.{line}
+use Rattle.class_world.specs.Lines.{board_lead, numbered, numbered_lines, seen_at}
 use Rattle.class_world.specs.Hearing.{moment_of, before, sent_at}
-use Rattle.class_world.specs.Lines.{numbered_lines, seen_at}
 use Rattle.class_world.proofs.Laws.{before_split, seen_at_new}
-use Rattle.board_run.specs.Advancing.{led_lines}
-use Rattle.board_run.specs.Proceeding.{first_sent}
+use Rattle.board_run.specs.Advancing.{led_lines, first_sent}
 
 before_short : (u : ℕ) (xs : List Observation) → length (before u xs) ≤ length xs
 before_short u [] = omega arith
@@ -53,12 +51,12 @@ seen_now t old new h k l =
     all_now t new (cancelled old (before t new) parts) (early_last (t + 1) old new l))
 
 -- lines with the number before each are numbered lines
-pub led_numbered : (b : ℕ) (os : List Observation) → led_lines (count_text b ++ codes " ") os ≡ numbered_lines b os
+pub led_numbered : (b : ℕ) (os : List Observation) → led_lines (board_lead b) os ≡ numbered_lines b os
 led_numbered b [] = refl
 led_numbered b (o ∷ os) =
-    ap (λ (r : ByteList). ((count_text b ++ codes " ") ++ line o) ++ r) (led_numbered b os) ∙ ap (λ (r : ByteList). r ++ numbered_lines b os) (append_assoc (count_text b) (codes " ") (line o))
+    ap (λ (r : ByteList). numbered b (line o) ++ r) (led_numbered b os)
 
-pub led_at : (t b : ℕ) (old new : List Observation) → before t old ≡ old → AllByRecursion (λ (o : Observation). moment_of o ≡ t) new → led_lines (count_text b ++ codes " ") new ≡ seen_at t b (old ++ new)
+pub led_at : (t b : ℕ) (old new : List Observation) → before t old ≡ old → AllByRecursion (λ (o : Observation). moment_of o ≡ t) new → led_lines (board_lead b) new ≡ seen_at t b (old ++ new)
 led_at t b old new h k = led_numbered b new ∙ sym (seen_at_new t b old new h k)
 
 sent_append : (t : ℕ) (xs ys : List Observation) → sent_at t (xs ++ ys) ≡ sent_at t xs ++ sent_at t ys

@@ -15,7 +15,7 @@ use Rattle.class_world.specs.Hearing.{moment_of, before}
 use Rattle.class_world.specs.Lines.{numbered, is_stopped, stopped_at, lines_at, moment_lines, lines_before}
 use Rattle.class_world.proofs.Laws.{lines_same}
 use Rattle.board_run.specs.declared.end.Stop.{Stop}
-use Rattle.board_run.specs.View.{end_of}
+use Rattle.board_run.specs.Represents.{end_of}
 use Rattle.class_radio.specs.declared.player.Player.{Player}
 use Rattle.class_radio.specs.Playing.{Setup, outlook, HasPlayed, HasCome}
 use Rattle.class_radio.specs.Stepping.{MayGoOn, WentThrough, WasCut, WasBroken}

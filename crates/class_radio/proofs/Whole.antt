@@ -15,7 +15,8 @@ use Rattle.class_steps.proofs.Laws.{ends_whole}
 use Rattle.class_radio.specs.declared.player.Player.{Player}
 use Rattle.class_radio.specs.Playing.{Setup}
 use Rattle.class_radio.specs.Losses.{lost_by}
-use Rattle.class_radio.specs.Outcome.{members_of, class_of_parts, boards_of, is_panic, is_fault, how_many_end, IsDone, IsStopped}
+use Rattle.class_steps.specs.Texts.{boards_now}
+use Rattle.class_radio.specs.Outcome.{members_of, class_of_parts, is_panic, is_fault, how_many_end, IsDone, IsStopped}
 use Rattle.class_radio.specs.Stepped.{ClassPlan, IsSoundPlan, Past, seens, outlooks, IsAtMoment, AreIn}
 use Rattle.class_radio.proofs.Runs.{runs_of, frees_of, Fits, fit_all, members_are, in_order, hear_all, looks_all, seen_all, within_come}
 
@@ -44,7 +45,7 @@ module _ (plan : ClassPlan) (sound : IsSoundPlan plan) (began : Option (List ℕ
   hear = subst (λ (S : List (List Observation)). Hear C (suc plan.until) S 0 runs) (sym (seen_all plan.until plan.until plan.budget 0 pasts players fits are.come))
       (hear_all C (suc plan.until) (seens pasts) (IsAtMoment plan.budget (suc plan.until)) 0 0 pasts players are.come are.heard)
 
-  whole : IsWhole C runs × (whole_text plan.until (boards_of plan.until runs) ≡ text_of_looks plan.until os)
+  whole : IsWhole C runs × (whole_text plan.until (boards_now plan.until runs) ≡ text_of_looks plan.until os)
   whole = ends_whole C runs os (in_order plan.setups (frees_of pasts) sound.rising) boards hear looks_are
 
   within : AllByRecursion (λ (p : Played Fiber Shared). p.steps ≤ plan.budget) runs
@@ -54,12 +55,11 @@ module _ (plan : ClassPlan) (sound : IsSoundPlan plan) (began : Option (List ℕ
   so_far = subst (Took began taken) (append-nil (lines_before (suc plan.until) (looks os))) are.written
 
   pub done : (taken' : Option (List ℕ)) (panics faults : ℕ) → Took taken taken' (closing_lines (last_line plan.until os) 0 (looks os))
-      → panics ≡ how_many_end is_panic (boards_of plan.until runs) → faults ≡ how_many_end is_fault (boards_of plan.until runs) → IsDone plan.setups plan.losses plan.until plan.budget panics faults began taken'
+      → panics ≡ how_many_end is_panic (boards_now plan.until runs) → faults ≡ how_many_end is_fault (boards_now plan.until runs) → IsDone plan.setups plan.losses plan.until plan.budget panics faults began taken'
   done taken' panics faults closed p f = record {
     frees = frees_of pasts;
-    runs = runs;
-    whole = whole.0;
-    within = within;
+    text = whole_text plan.until (boards_now plan.until runs);
+    has = record { runs = runs; whole = whole.0; within = within; is = refl };
     panicked = p;
     faulted = f;
     written = subst (Took began taken') (sym whole.1) (took-then _ _ so_far closed);
@@ -68,7 +68,7 @@ module _ (plan : ClassPlan) (sound : IsSoundPlan plan) (began : Option (List ℕ
   pub stopped : (taken' : Option (List ℕ)) → TookPart taken taken' (closing_lines (last_line plan.until os) 0 (looks os)) → IsStopped plan.setups plan.losses plan.until plan.budget began taken'
   stopped taken' part = record {
     frees = frees_of pasts;
-    text = whole_text plan.until (boards_of plan.until runs);
+    text = whole_text plan.until (boards_now plan.until runs);
     is = inl (record { runs = runs; whole = whole.0; within = within; is = refl });
     written = subst (TookPart began taken') (sym whole.1) (part-then _ _ so_far part);
   }

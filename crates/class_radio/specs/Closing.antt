@@ -1,9 +1,9 @@
 -- How a class of players ends.
-use Rattle.std.specs.Prelude.{◌≡◌, ◌+◌, ℕ, suc, max, Bool, true, false, if◌then◌else◌, is_some, List, [], ◌∷◌, ◌++◌, codes, Some}
+use Rattle.std.specs.Prelude.{◌≡◌, ◌+◌, ℕ, suc, max, Bool, true, false, if◌then◌else◌, is_some, List, [], ◌∷◌, ◌++◌, Some}
 use Rattle.std.specs.List.{list_any}
 use Rattle.board_world.specs.Observations.{ByteList, Quietly, By_script}
-use Rattle.board_world.specs.Transcript.{count_text, closing_line}
-use Rattle.class_world.specs.Lines.{numbered}
+use Rattle.board_world.specs.Transcript.{closing_line}
+use Rattle.class_world.specs.Lines.{board_lead, numbered}
 use Rattle.class_radio.specs.declared.player.Player.{Player}
 use Rattle.class_radio.specs.declared.player.Standing.{Standing}
 use Rattle.class_radio.specs.declared.player.Standing.TheVariants.{Plays, Panicked, Faulted}
@@ -11,7 +11,7 @@ use Rattle.class_radio.specs.Playing.{standing_of}
 
 -- a player has the lead of its number, and stands as its run does
 pub record IsLed (number : ℕ) (p : Player) : Type 0 where
-  pub lead : p.lead ≡ count_text number ++ codes " "
+  pub lead : p.lead ≡ board_lead number
   pub stands : p.standing ≡ standing_of p.board.engine.end
 
 -- so do these, from this number on

@@ -1,6 +1,5 @@
 -- How the run of a class of images ends.
-use Rattle.std.specs.Prelude.{◌≡◌, ℕ, ◌+◌, ◌≤◌, Bool, true, false, if◌then◌else◌, List, [], ◌∷◌, ◌++◌, length, map, Option, Some}
-use Rattle.std.specs.List.{AllByRecursion}
+use Rattle.std.specs.Prelude.{◌≡◌, ℕ, ◌+◌, Bool, true, false, if◌then◌else◌, List, [], ◌∷◌, length, Option, Some}
 use Rattle.std.specs.declared.vec.Vec.{Vec}
 use Rattle.std.specs.declared.alloc.Global.{Global}
 use Rattle.sts_base.specs.Faults.{Rose}
@@ -8,10 +7,9 @@ use Rattle.board_world.specs.Observations.{ByteList, End, Panicked, Faulted}
 use Rattle.board_world.specs.Board.{Board}
 use Rattle.bank_model.specs.Fibers.{Fiber, Shared}
 use Rattle.tool_io.specs.Putting.{Took, TookPart}
-use Rattle.class_world.specs.Classes.{Member, Class, Played, world_of, IsWhole, IsRunUpTo}
+use Rattle.class_world.specs.Classes.{Member, Class}
 use Rattle.event_script.specs.declared.script.Script.{Script}
-use Rattle.class_world.specs.Lines.{whole_text, cut_text}
-use Rattle.class_steps.specs.Texts.{IsTextOf}
+use Rattle.class_steps.specs.Texts.{boards_now, HasWholeText, HasSpentText, IsTextOf}
 use Rattle.class_file.specs.declared.class.Loss.{Loss}
 use Rattle.class_radio.specs.Playing.{Setup, member_of}
 use Rattle.class_radio.specs.Losses.{lost_by}
@@ -35,9 +33,6 @@ abbrev pub class_of_parts : List Setup → List Loss → ℕ → List (List ℕ)
 class_of_parts parts losses until frees =
     record { members = members_of parts frees; until = until; lost = lost_by losses }
 
-abbrev pub boards_of : ℕ → List (Played Fiber Shared) → List Board
-boards_of until ps = map (λ (p : Played Fiber Shared). (world_of until p).board) ps
-
 -- whether a run ended by a panic, or by a fault
 abbrev pub is_panic : Option End → Bool
 is_panic (Some (Panicked code)) = true
@@ -56,25 +51,19 @@ module _ (parts : List Setup) (losses : List Loss) (until budget : ℕ) where
   -- Each board's run ended within the budget, and the whole text was written.
   pub record IsDone (panics faults : ℕ) (taken taken' : Option (List ℕ)) : Type 0 where
     pub frees : List (List ℕ)
-    pub runs : List (Played Fiber Shared)
-    pub whole : IsWhole (class_of_parts parts losses until frees) runs
-    pub within : AllByRecursion (λ (p : Played Fiber Shared). p.steps ≤ budget) runs
-    pub panicked : panics ≡ how_many_end is_panic (boards_of until runs)
-    pub faulted : faults ≡ how_many_end is_fault (boards_of until runs)
-    pub written : Took taken taken' (whole_text until (boards_of until runs))
+    pub text : ByteList
+    pub has : HasWholeText (class_of_parts parts losses until frees) budget text
+    pub panicked : panics ≡ how_many_end is_panic (boards_now until has.runs)
+    pub faulted : faults ≡ how_many_end is_fault (boards_now until has.runs)
+    pub written : Took taken taken' text
 
-  -- The budget of the board with this number ended: it has made as many steps, no board has made more, and the lines up to there were written.
+  -- The budget of the board with this number ended: it has made as many steps, no board has made more, and the text up to there was written.
   pub record HasSpent (number : ℕ) (taken taken' : Option (List ℕ)) : Type 0 where
     pub frees : List (List ℕ)
-    pub below : List (Played Fiber Shared)
-    pub here : Played Fiber Shared
-    pub above : List (Played Fiber Shared)
-    pub cut : IsRunUpTo (class_of_parts parts losses until frees) below here above
-    pub at : length below ≡ number
-    pub steps : here.steps ≡ budget
-    pub within : AllByRecursion (λ (p : Played Fiber Shared). p.steps ≤ budget) (below ++ here ∷ above)
-    pub written : Took taken taken'
-        (cut_text number (world_of until here).board (boards_of until below) (boards_of until (below ++ here ∷ above)))
+    pub text : ByteList
+    pub has : HasSpentText (class_of_parts parts losses until frees) budget text
+    pub at : length has.0.before ≡ number
+    pub written : Took taken taken' text
 
   -- The sink failed in a text that the class has where each board may make so many steps.
   pub record IsStopped (taken taken' : Option (List ℕ)) : Type 0 where

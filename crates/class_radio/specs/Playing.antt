@@ -1,8 +1,8 @@
 -- A board of a class between two moments.
-use Rattle.std.specs.Prelude.{◌≡◌, ℕ, ◌+◌, ◌≤◌, ◌⊎◌, ℤ, pos, if◌then◌else◌, ◌==◌, List, [], ◌∷◌, ◌++◌, codes, Option, Some, None, IfSome}
+use Rattle.std.specs.Prelude.{◌≡◌, ℕ, ◌+◌, ◌≤◌, ◌⊎◌, ℤ, pos, if◌then◌else◌, ◌==◌, List, [], ◌∷◌, ◌++◌, Option, Some, None, IfSome}
 use Rattle.board_world.specs.declared.events.Event.{Event}
 use Rattle.board_world.specs.Observations.{Observation}
-use Rattle.board_world.specs.Transcript.{count_text}
+use Rattle.class_world.specs.Lines.{board_lead}
 use Rattle.board_world.specs.Board.{Entry}
 use Rattle.board_world.specs.Activities.{World}
 use Rattle.thumb_code.specs.Machine.{main_of}
@@ -21,7 +21,7 @@ use Rattle.board_run.specs.declared.end.Stop.TheVariants.{Panic, Fault}
 use Rattle.board_run.specs.Advancing.{IsWhole}
 use Rattle.board_run.specs.Going.{queued_all, next_moment, IsResting, Shows}
 use Rattle.board_run.specs.Ran.{IsMounted}
-use Rattle.board_run.specs.View.{state_of, plain_of}
+use Rattle.board_run.specs.Represents.{state_of, plain_of}
 use Rattle.class_radio.specs.declared.player.Player.{Player}
 use Rattle.class_radio.specs.declared.player.Standing.{Standing}
 use Rattle.class_radio.specs.declared.player.Standing.TheVariants.{Plays, Panicked, Faulted}
@@ -51,7 +51,7 @@ standing_of _ = Plays
 
 -- It has this number and this budget, of which the rest is left while it plays, and tells how its run stands.
 pub record IsNumbered (number budget : ℕ) (p : Player) : Type 0 where
-  pub lead : p.lead ≡ count_text number ++ codes " "
+  pub lead : p.lead ≡ board_lead number
   pub left : p.board.engine.end ≡ None → p.left + p.board.instructions ≡ budget
   pub within : p.board.instructions ≤ budget
   pub most : budget ≤ 2147483648

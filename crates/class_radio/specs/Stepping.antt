@@ -11,7 +11,7 @@ use Rattle.tool_io.specs.Putting.{Took, TookPart}
 use Rattle.class_world.specs.Hearing.{before, sent_at}
 use Rattle.class_world.specs.Classes.{world_before}
 use Rattle.class_world.specs.Lines.{seen_at, lines_at}
-use Rattle.board_run.specs.Proceeding.{IsBusy}
+use Rattle.board_run.specs.Advancing.{IsBusy}
 use Rattle.board_run.specs.declared.end.End.TheVariants.{Panic, Fault, SinkFault as SinkFaultEnd}
 use Rattle.board_run.specs.declared.moments.Gone.{Gone}
 use Rattle.board_run.specs.declared.moments.Gone.TheVariants.{Idle, Ended}

@@ -1,9 +1,9 @@
 //! The closing lines of a class, and how many boards stopped.
-ghost use Rattle.std.specs.Prelude.{◌≡◌, ◌<◌, ◌++◌, codes, length, max, if◌then◌else◌, ℕ, List, None};
+ghost use Rattle.std.specs.Prelude.{◌≡◌, ◌<◌, ◌++◌, length, max, if◌then◌else◌, ℕ, List, None};
 ghost use Rattle.board_world.specs.Observations.{Observation};
-ghost use Rattle.board_world.specs.Transcript.{closing_line, count_text};
+ghost use Rattle.board_world.specs.Transcript.{closing_line};
+ghost use Rattle.class_world.specs.Lines.{board_lead, closing_lines, numbered};
 ghost use Rattle.tool_io.specs.Putting.{PutsTo};
-ghost use Rattle.class_world.specs.Lines.{closing_lines, numbered};
 ghost use Rattle.class_steps.specs.Outlook.{last_line, looks};
 ghost use Rattle.class_radio.specs.Stepped.{outlooks};
 ghost use Rattle.class_radio.specs.Closing.{IsLed, AreLed, some_due, latest_clock, last_line_of, end_line_of, stands_same, how_many_stand};
@@ -14,7 +14,7 @@ use tool_io::{PutFailed, Sink};
 
 /// Puts the closing line of a board whose budget ended at a moment.
 pub fn put_budget<K: Sink>(player: &Player, moment: u32, out: &mut K) -> Result<(), PutFailed>
-    ensures { (number : ℕ) → player.now.lead ≡ count_text number ++ codes " "
+    ensures { (number : ℕ) → player.now.lead ≡ board_lead number
         → PutsTo K.taken K.faults out.old out.new (numbered number (closing_line moment None)) result }
 {
     let put = out.put(player.lead());
@@ -59,7 +59,7 @@ fn put_last<K: Sink>(
     latest: u32,
     out: &mut K,
 ) -> Result<(), PutFailed>
-    ensures { (number : ℕ) → player.now.lead ≡ count_text number ++ codes " "
+    ensures { (number : ℕ) → player.now.lead ≡ board_lead number
         → PutsTo K.taken K.faults out.old out.new (numbered number (last_line_of by_script end latest)) result }
 {
     let put = out.put(player.lead());

@@ -14,7 +14,7 @@ use Rattle.class_world.specs.Lines.{numbered, seen_at, lines_at, moment_lines, l
 use Rattle.class_world.proofs.Laws.{rising_heard, heard_on, heard_of_before, lines_same, all_ended}
 use Rattle.class_steps.specs.Outlook.{Outlook, IsSeenAs, looks}
 use Rattle.class_steps.specs.Texts.{Reached, boards_now, IsTextOf}
-use Rattle.class_steps.proofs.Cutting.{reached, reached_sooner, runs_to, moment_of_all}
+use Rattle.class_steps.proofs.Cutting.{boards_append, boards_length, cut_as, reached, reached_sooner, runs_to, moment_of_all}
 use Rattle.class_steps.proofs.Longer.{come, longer_reached, cut_lines, more_lines, given_reached}
 
 -- beginnings
@@ -35,14 +35,6 @@ moment_append : (t b n : ℕ) (ws vs : List Board) → length ws + b ≡ n → m
 moment_append t b n [] vs e = (let same : b ≡ n = omega (arith, e) in ap (λ (i : ℕ). moment_lines t i vs) same)
 moment_append t b n (w ∷ ws) vs e =
     ap (λ (l : ByteList). lines_at t b w ++ l) (moment_append t (suc b) n ws vs (omega (arith, e))) ∙ sym (append_assoc (lines_at t b w) (moment_lines t (suc b) ws) (moment_lines t n vs))
-
-boards_append : {A S : Type 0} (until : ℕ) (ps qs : List (Played A S)) → boards_now until (ps ++ qs) ≡ boards_now until ps ++ boards_now until qs
-boards_append until [] qs = refl
-boards_append until (p ∷ ps) qs = ap (λ (ws : List Board). (world_of until p).board ∷ ws) (boards_append until ps qs)
-
-boards_length : {A S : Type 0} (until : ℕ) (ps : List (Played A S)) → length (boards_now until ps) ≡ length ps
-boards_length until [] = refl
-boards_length until (p ∷ ps) = ap suc (boards_length until ps)
 
 abbrev AllRise : {A S : Type 0} → List (Played A S) → Type 0
 AllRise ps = AllByRecursion (λ (p : Played _ _). IsRisingFrom 0 p.script) ps
@@ -192,19 +184,22 @@ module _ {A S : Type 0} (C : Class A S) (order : AreInOrder C.members) where
       let all = boards_now C.until (first ++ here ∷ rest) in
       let w = (world_of C.until here).board in
       let last = numbered (length first) (closing_line w.clock None) in
-      let text = cut_text (length first) w (boards_now C.until first) all in (
+      let text = cut_text (boards_now C.until first) w (boards_now C.until rest) in (
         text,
-        inr (record {
-          below = first;
-          here = here;
-          above = rest;
-          cut = record { runs = subst (λ (v : ℕ). IsRunTo C v (first ++ here ∷ rest)) (sym now) r; passed = subst (λ (v : ℕ). Pass (suc v) first) (sym now) passed; goes = goes.0 };
-          steps = steps;
-          within = within;
-          is = refl;
-        }),
+        inr (
+          record {
+            before = first;
+            here = here;
+            behind = rest;
+            cut = record { runs = subst (λ (v : ℕ). IsRunTo C v (first ++ here ∷ rest)) (sym now) r; passed = subst (λ (v : ℕ). Pass (suc v) first) (sym now) passed; goes = goes.0 };
+            within = within;
+            is = refl;
+          },
+          steps,
+        ),
         begins_same (lines_before u all ++ x) (lines_before u all ++ x) text (lines_before u all ++ ((moment_lines u 0 (boards_now C.until first) ++ seen_at u (length first) w.seen) ++ last)) refl
-            (ap (λ (v : ℕ). lines_before v all ++ (moment_lines v 0 (boards_now C.until first) ++ (seen_at v (length first) w.seen ++ last))) now
+            (cut_as C.until first rest here
+            ∙ ap (λ (v : ℕ). lines_before v all ++ (moment_lines v 0 (boards_now C.until first) ++ (seen_at v (length first) w.seen ++ last))) now
             ∙ ap (λ (l : ByteList). lines_before u all ++ l) (sym (append_assoc (moment_lines u 0 (boards_now C.until first)) (seen_at u (length first) w.seen) last)))
             (begins_behind (lines_before u all) x _ (begins_more x _ last h)),
       ))

@@ -15,9 +15,25 @@ use Rattle.class_world.specs.Classes.{Class, Played, starting, world_of, world_b
 use Rattle.class_world.specs.Lines.{numbered, seen_at, is_stopped, stopped_at, moment_lines, lines_before, cut_text, WroteSame}
 use Rattle.class_world.proofs.Laws.{begins_timely, one_passes, heard_of_before, lines_same}
 use Rattle.class_steps.specs.Outlook.{Outlook, IsSeenAs}
-use Rattle.class_steps.specs.Texts.{Reached}
+use Rattle.class_steps.specs.Texts.{Reached, boards_now}
 use Rattle.class_steps.proofs.Looking.{at_rest, is_over, by_end, seen_early}
 use Rattle.class_steps.proofs.Alike.{stopped_at_alike}
+
+pub boards_append : {A S : Type 0} (until : ℕ) (ps qs : List (Played A S)) → boards_now until (ps ++ qs) ≡ boards_now until ps ++ boards_now until qs
+boards_append until [] qs = refl
+boards_append until (p ∷ ps) qs = ap (λ (ws : List Board). (world_of until p).board ∷ ws) (boards_append until ps qs)
+
+pub boards_length : {A S : Type 0} (until : ℕ) (ps : List (Played A S)) → length (boards_now until ps) ≡ length ps
+boards_length until [] = refl
+boards_length until (p ∷ ps) = ap suc (boards_length until ps)
+
+-- a text that is cut, by the runs of the class
+pub cut_as : {A S : Type 0} (until : ℕ) (ps qs : List (Played A S)) (here : Played A S) → (let w = (world_of until here).board in cut_text (boards_now until ps) w (boards_now until qs)
+    ≡ lines_before w.clock (boards_now until (ps ++ here ∷ qs)) ++ (moment_lines w.clock 0 (boards_now until ps) ++ (seen_at w.clock (length ps) w.seen ++ numbered (length ps) (closing_line w.clock None))))
+cut_as until ps qs here =
+    (let w = (world_of until here).board in
+    ap (λ (n : ℕ). lines_before w.clock (boards_now until ps ++ w ∷ boards_now until qs) ++ (moment_lines w.clock 0 (boards_now until ps) ++ (seen_at w.clock n w.seen ++ numbered n (closing_line w.clock None)))) (boards_length until ps)
+    ∙ ap (λ (all : List Board). lines_before w.clock all ++ (moment_lines w.clock 0 (boards_now until ps) ++ (seen_at w.clock (length ps) w.seen ++ numbered (length ps) (closing_line w.clock None)))) (sym (boards_append until ps (here ∷ qs))))
 
 none_before : (os : List Observation) → before 0 os ≡ []
 none_before [] = refl
@@ -158,7 +174,7 @@ module _ {A S : Type 0} (C : Class A S) (t : ℕ) where
   module _ (below above : List (Played A S)) (here : Played A S) (bs cs : List Board) (seens : List (List Observation)) (number : ℕ)
       (boards : map (λ (p : Played A S). p.member) (below ++ here ∷ above) ≡ C.members) (hear : Hear C t seens 0 (below ++ here ∷ above)) (e : map (before t) (Seen (below ++ here ∷ above)) ≡ seens)
       (passed : Paired (Reached C.until (suc t)) below bs) (came : Paired (Reached C.until t) above cs)
-      (goes : over (world_before C.until (suc t) here).board ≡ false) (some : 0 < length (world_before C.until (suc t) here).ready) (clock : (world_before C.until (suc t) here).board.clock ≡ t) where
+      (is_number : length below ≡ number) (goes : over (world_before C.until (suc t) here).board ≡ false) (some : 0 < length (world_before C.until (suc t) here).ready) (clock : (world_before C.until (suc t) here).board.clock ≡ t) where
     abbrev w : World A S
     w = world_of C.until here
 
@@ -187,10 +203,12 @@ module _ {A S : Type 0} (C : Class A S) (t : ℕ) where
       goes = ap (λ (x : World A S). over x.board) same ∙ goes;
     }
 
-    pub text_is : cut_text number w.board (Boards below) (Boards (below ++ here ∷ above))
+    pub text_is : cut_text (Boards below) w.board (Boards above)
         ≡ lines_before t (bs ++ v.board ∷ cs) ++ (moment_lines t 0 bs ++ (seen_at t number v.board.seen ++ numbered number (closing_line t None)))
     text_is =
-        ap (λ (c : ℕ). lines_before c (Boards (below ++ here ∷ above)) ++ (moment_lines c 0 (Boards below) ++ (seen_at c number w.board.seen ++ numbered number (closing_line c None)))) clock_is
+        cut_as C.until below above here
+        ∙ ap (λ (n : ℕ). lines_before w.board.clock (Boards (below ++ here ∷ above)) ++ (moment_lines w.board.clock 0 (Boards below) ++ (seen_at w.board.clock n w.board.seen ++ numbered n (closing_line w.board.clock None)))) is_number
+        ∙ ap (λ (c : ℕ). lines_before c (Boards (below ++ here ∷ above)) ++ (moment_lines c 0 (Boards below) ++ (seen_at c number w.board.seen ++ numbered number (closing_line c None)))) clock_is
         ∙ ap (λ (r : ByteList). r ++ (moment_lines t 0 (Boards below) ++ (seen_at t number w.board.seen ++ numbered number (closing_line t None)))) (lines_same t t (omega arith) _ _ (wrote_all t (below ++ here ∷ above) (bs ++ v.board ∷ cs) all_reached))
         ∙ ap (λ (r : ByteList). lines_before t (bs ++ v.board ∷ cs) ++ (r ++ (seen_at t number w.board.seen ++ numbered number (closing_line t None)))) (moment_of_all (Boards below) bs (wrote_all (suc t) below bs passed))
         ∙ ap (λ (x : World A S). lines_before t (bs ++ v.board ∷ cs) ++ (moment_lines t 0 bs ++ (seen_at t number x.board.seen ++ numbered number (closing_line t None)))) same

@@ -1,5 +1,5 @@
 -- What a class writes where each of its boards may make so many steps.
-use Rattle.std.specs.Prelude.{◌≡◌, ℕ, ◌≤◌, ◌⊎◌, List, ◌∷◌, ◌++◌, length, map}
+use Rattle.std.specs.Prelude.{◌≡◌, ℕ, ◌≤◌, ◌⊎◌, List, ◌∷◌, ◌++◌, map}
 use Rattle.std.specs.List.{AllByRecursion}
 use Rattle.board_world.specs.Observations.{ByteList}
 use Rattle.board_world.specs.Board.{Board}
@@ -22,16 +22,18 @@ pub record HasWholeText {A S : Type 0} (C : Class A S) (budget : ℕ) (text : By
   pub within : AllByRecursion (λ (p : Played A S). p.steps ≤ budget) runs
   pub is : text ≡ whole_text C.until (boards_now C.until runs)
 
--- One of its boards, which goes on, has made as many, no board has made more, and this is its text.
+-- One of its boards goes on, no board has made more steps, and this is its text.
 pub record HasCutText {A S : Type 0} (C : Class A S) (budget : ℕ) (text : ByteList) : Type 0 where
-  pub below : List (Played A S)
+  pub before : List (Played A S)
   pub here : Played A S
-  pub above : List (Played A S)
-  pub cut : IsRunUpTo C below here above
-  pub steps : here.steps ≡ budget
-  pub within : AllByRecursion (λ (p : Played A S). p.steps ≤ budget) (below ++ here ∷ above)
-  pub is : text ≡ cut_text (length below) (world_of C.until here).board (boards_now C.until below)
-      (boards_now C.until (below ++ here ∷ above))
+  pub behind : List (Played A S)
+  pub cut : IsRunUpTo C before here behind
+  pub within : AllByRecursion (λ (p : Played A S). p.steps ≤ budget) (before ++ here ∷ behind)
+  pub is : text ≡ cut_text (boards_now C.until before) (world_of C.until here).board (boards_now C.until behind)
+
+-- and that board has made as many
+abbrev pub HasSpentText : {A S : Type 0} → Class A S → ℕ → ByteList → Type 0
+HasSpentText C budget text = (cut : HasCutText C budget text) × (cut.here.steps ≡ budget)
 
 abbrev pub IsTextOf : {A S : Type 0} → Class A S → ℕ → ByteList → Type 0
-IsTextOf C budget text = HasWholeText C budget text ⊎ HasCutText C budget text
+IsTextOf C budget text = HasWholeText C budget text ⊎ HasSpentText C budget text

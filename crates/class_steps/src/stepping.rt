@@ -24,13 +24,13 @@ pub fn boards_that_wait_have_ended<A, S>()
 /// Boards in the midst of a moment, each on what it heard of what these have seen before it: the first have gone through it, the next has made a part of its steps in it, and the others have come to it. Where none has
 /// made more steps than a budget, some text of their class begins with what they have written: all lines from before the moment, and at it those of the first and those that the next has written so far.
 pub fn boards_in_a_moment_begin_a_text<A, S>()
-    ensures { (C : Class A S) (budget t : ℕ) (below above : List (Played A S)) (here : Played A S) (bs cs : List Board)
+    ensures { (C : Class A S) (budget t : ℕ) (ps qs : List (Played A S)) (here : Played A S) (bs cs : List Board)
         → AreInOrder C.members → t ≤ C.until
         → (let v = (world_before C.until (suc t) here).board in
-        map (λ (p : Played A S). p.member) (below ++ here ∷ above) ≡ C.members
-        → Hear C t (map (λ (w : Board). before t w.seen) (bs ++ v ∷ cs)) 0 (below ++ here ∷ above)
-        → Paired (Reached C.until (suc t)) below bs → Paired (Reached C.until t) above cs → t ≤ v.clock
-        → AllByRecursion (λ (p : Played A S). p.steps ≤ budget) (below ++ here ∷ above)
+        map (λ (p : Played A S). p.member) (ps ++ here ∷ qs) ≡ C.members
+        → Hear C t (map (λ (w : Board). before t w.seen) (bs ++ v ∷ cs)) 0 (ps ++ here ∷ qs)
+        → Paired (Reached C.until (suc t)) ps bs → Paired (Reached C.until t) qs cs → t ≤ v.clock
+        → AllByRecursion (λ (p : Played A S). p.steps ≤ budget) (ps ++ here ∷ qs)
         → (text : ByteList) × IsTextOf C budget text
-        × IsPrefix (lines_before t (bs ++ v ∷ cs) ++ (moment_lines t 0 bs ++ lines_at t (length below) v)) text) }
+        × IsPrefix (lines_before t (bs ++ v ∷ cs) ++ (moment_lines t 0 bs ++ lines_at t (length ps) v)) text) }
 {}
