@@ -13,9 +13,8 @@ use Rattle.sts_words.proofs.Laws.{same-text}
 use Rattle.clap.specs.Takes.{entered_passes, is_valid, built_takes, walk_passes, turn_passes, level_passes, is_given, settle_passes}
 use Rattle.clap.proofs.OnLiterals.{clap_on_literals}
 use Rattle.sts_words.specs.Orders.{Asked, order_view}
-use Rattle.sts_words.specs.Words.{Said, asked_by, IsAskedBy}
-use Rattle.sts_words.specs.Reading.{order_of, said_with, nothing}
-use Rattle.sts_words.proofs.Laws.{said-from-nothing}
+use Rattle.sts_words.specs.Words.{Said, asked_by, IsAskedBy, nothing}
+use Rattle.sts_words.specs.Reading.{order_of, said_with}
 use Rattle.command_line.specs.Found.{Says}
 use Rattle.command_line.specs.Tool.{tool_app}
 use Rattle.command_line.proofs.Steps.{rules, shape, whole}
@@ -210,7 +209,7 @@ both-said command rest asked (Some said) e is =
 pub taken-both : (words : List Text) (asked : Asked) → order_of words ≡ Some asked → TakenBoth words asked
 taken-both [] asked is = let bad : ⊥ = cc in absurd bad
 taken-both (command ∷ rest) asked is =
-    both-said command rest asked (said_with nothing false rest) refl (ap (option_and_then (asked_by command)) (said-from-nothing rest) ∙ is)
+    both-said command rest asked (said_with nothing false rest) refl is
 
 order-known : (hand : Option Order) (o : Option Asked) → is_some hand ≡ true → option_map order_view hand ≡ o → (asked : Asked) × (o ≡ Some asked)
 order-known None o e is = absurd (false≢true e)

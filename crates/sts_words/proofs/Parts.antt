@@ -1,153 +1,84 @@
 -- Parts that are added one after another, each option at most once.
-use Rattle.std.proofs.Common.{◌≡◌, ℕ, suc, ◌+◌, ◌<◌, ◌≤◌, List, [], ◌∷◌, ◌++◌, length, drop, get_or, map, refl, sym, ap, ◌∙◌, arith, subst, append_assoc, append-nil, length-append}
-use Rattle.std.specs.Prelude.{Bool, true, false, ◌&&◌, nat_le, nat_lt, if◌then◌else◌, codes, slice_get, option_and_then, Option, Some, None}
+use Rattle.std.proofs.Common.{◌≡◌, ℕ, suc, ◌+◌, ◌<◌, ◌≤◌, List, [], ◌∷◌, ◌++◌, length, drop, get_or, map, refl, sym, ap, ◌∙◌, arith, length-append}
+use Rattle.std.specs.Prelude.{Bool, true, false, nat_le, is_some, if◌then◌else◌, codes, option_and_then, Option, Some, None}
 use Rattle.std.proofs.Math.Seq.{drop-cons}
 use Rattle.std.proofs.lemmas.List.{drop_all}
-use Rattle.std.proofs.lemmas.Bool.{false≢true, le-leb, lt-leb, leb-true, leb-false}
+use Rattle.std.proofs.lemmas.Bool.{leb-false}
 use Rattle.std.specs.Option.{option_map}
 use Rattle.std.specs.Str.{bytes_eq}
-use Rattle.sts_words.specs.Words.{Part, a_name, a_budget, the_stats, the_image, Said, names_of, budgets_of, count_of_stats, count_of_images, said_by}
-use Rattle.sts_words.specs.Reading.{budget_part, part_of, parts_from, in_front, nothing, added, added_all, said_with, next}
+use Rattle.sts_words.specs.Orders.{Asked}
+use Rattle.sts_words.specs.Words.{Part, a_name, a_budget, the_stats, the_image, Said, asked_by, nothing, all_also_said, said_by}
+use Rattle.sts_words.specs.Reading.{budget_part, part_of, parts_from, in_front, added, added_all, said_with, next}
 
-abbrev said : List (List ℕ) → Option ℕ → Bool → Bool → Said
-said names budget stats image = record { names = names; budget = budget; stats = stats; image = image }
+-- where more than three names stand, a command asks for nothing
+same-else : {A : Type 0} (b : Bool) (x : A) → (if b then x else x) ≡ x
+same-else true x = refl
+same-else false x = refl
 
-abbrev listed : Option ℕ → List ℕ
-listed None = []
-listed (Some n) = n ∷ []
+four-asked : (command first second third fourth : List ℕ) (more : List (List ℕ)) (budget : Option ℕ) (stats image : Bool)
+    → asked_by command (record { names = first ∷ second ∷ third ∷ fourth ∷ more; budget = budget; stats = stats; image = image }) ≡ None
+four-asked command first second third fourth more budget stats image = simp same-else
 
-abbrev counted : Bool → ℕ
-counted true = 1
-counted false = 0
+many-asked : (command : List ℕ) (names : List (List ℕ)) (budget : Option ℕ) (stats image : Bool) → 3 < length names → asked_by command (record { names = names; budget = budget; stats = stats; image = image }) ≡ None
+many-asked command [] budget stats image h = absurd (omega (arith, h))
+many-asked command (a ∷ []) budget stats image h = absurd (omega (arith, h))
+many-asked command (a ∷ b ∷ []) budget stats image h = absurd (omega (arith, h))
+many-asked command (a ∷ b ∷ c ∷ []) budget stats image h = absurd (omega (arith, h))
+many-asked command (a ∷ b ∷ c ∷ d ∷ more) budget stats image h = four-asked command a b c d more budget stats image
 
--- what so many names, budgets and flags say
-abbrev packed : List (List ℕ) → List ℕ → ℕ → ℕ → Option Said
-packed names budgets stats images =
-    if nat_le (length names) 3 && (nat_le (length budgets) 1 && (nat_le stats 1 && nat_le images 1))
-    then Some (said names (slice_get budgets 0) (nat_lt 0 stats) (nat_lt 0 images)) else None
+-- what is asked for behind a test, whatever it comes to
+asks-none : (b : Bool) (x : Said) (f : Said → Option Said) (ask : Said → Option Asked) → option_and_then ask (f x) ≡ None → option_and_then ask (option_and_then f (if b then None else Some x)) ≡ None
+asks-none true x f ask h = refl
+asks-none false x f ask h = h
 
-no-names : (b c : Bool) (x : Option Said) → b ≡ false → (if b && c then x else None) ≡ None
-no-names b c x e = subst (λ t. (if t && c then x else None) ≡ None) (sym e) refl
+asks-alike : (b : Bool) (x : Said) (f g : Said → Option Said) (ask : Said → Option Asked) → option_and_then ask (f x) ≡ option_and_then ask (g x)
+    → option_and_then ask (option_and_then f (if b then None else Some x)) ≡ option_and_then ask (option_and_then g (if b then None else Some x))
+asks-alike true x f g ask h = refl
+asks-alike false x f g ask h = h
 
-no-budgets : (a b c : Bool) (x : Option Said) → b ≡ false → (if a && (b && c) then x else None) ≡ None
-no-budgets true b c x e = no-names b c x e
-no-budgets false b c x e = refl
+asks-within : (b : Bool) (x : Said) (f g : Said → Option Said) (ask : Said → Option Asked) → option_and_then ask (f x) ≡ option_and_then ask (g x) → (b ≡ false → option_and_then ask (g x) ≡ None)
+    → option_and_then ask (option_and_then f (if b then Some x else None)) ≡ option_and_then ask (g x)
+asks-within true x f g ask h none = h
+asks-within false x f g ask h none = sym (none refl)
 
-no-stats : (a b c d : Bool) (x : Option Said) → c ≡ false → (if a && (b && (c && d)) then x else None) ≡ None
-no-stats true b c d x e = no-budgets b c d x e
-no-stats false b c d x e = refl
+-- parts behind more than three names ask for nothing either
+many-more : (command : List ℕ) (said : Said) (parts : List Part) → 3 < length said.names → option_and_then (asked_by command) (all_also_said said parts) ≡ None
+unfolding all_also_said
+many-more command said [] h = many-asked command said.names said.budget said.stats said.image h
+many-more command said (a_name word ∷ rest) h =
+    (let longer : length (said.names ++ word ∷ []) ≡ length said.names + length (word ∷ []) = length-append said.names (word ∷ []) in
+    many-more command (record said { names = said.names ++ word ∷ [] }) rest (omega (arith, h, longer)))
+many-more command said (a_budget number ∷ rest) h =
+    asks-none (is_some said.budget) (record said { budget = Some number }) (λ more. all_also_said more rest) (asked_by command) (many-more command (record said { budget = Some number }) rest h)
+many-more command said (the_stats ∷ rest) h =
+    asks-none said.stats (record said { stats = true }) (λ more. all_also_said more rest) (asked_by command) (many-more command (record said { stats = true }) rest h)
+many-more command said (the_image ∷ rest) h =
+    asks-none said.image (record said { image = true }) (λ more. all_also_said more rest) (asked_by command) (many-more command (record said { image = true }) rest h)
 
-no-images : (a b c d : Bool) (x : Option Said) → d ≡ false → (if a && (b && (c && d)) then x else None) ≡ None
-no-images true true true d x e = subst (λ t. (if t then x else None) ≡ None) (sym e) refl
-no-images true true false d x e = refl
-no-images true false c d x e = refl
-no-images false b c d x e = refl
+-- a command asks for the same where a fourth name isn't read
+same-asked : (command : List ℕ) (said : Said) (parts : List Part) → option_and_then (asked_by command) (added_all said parts) ≡ option_and_then (asked_by command) (all_also_said said parts)
+unfolding all_also_said added_all
+same-asked command said [] = refl
+same-asked command said (a_name word ∷ rest) =
+    (let next : Said = record said { names = said.names ++ word ∷ [] } in
+    asks-within (nat_le (length said.names) 2) next (λ more. added_all more rest) (λ more. all_also_said more rest) (asked_by command) (same-asked command next rest)
+    (λ e. let full : 2 < length said.names = leb-false (length said.names) 2 e in
+    let longer : length (said.names ++ word ∷ []) ≡ length said.names + length (word ∷ []) = length-append said.names (word ∷ []) in
+    many-more command next rest (omega (arith, full, longer))))
+same-asked command said (a_budget number ∷ rest) =
+    (let next : Said = record said { budget = Some number } in
+    asks-alike (is_some said.budget) next (λ more. added_all more rest) (λ more. all_also_said more rest) (asked_by command) (same-asked command next rest))
+same-asked command said (the_stats ∷ rest) =
+    (let next : Said = record said { stats = true } in
+    asks-alike said.stats next (λ more. added_all more rest) (λ more. all_also_said more rest) (asked_by command) (same-asked command next rest))
+same-asked command said (the_image ∷ rest) =
+    (let next : Said = record said { image = true } in
+    asks-alike said.image next (λ more. added_all more rest) (λ more. all_also_said more rest) (asked_by command) (same-asked command next rest))
 
-many-names : (names : List (List ℕ)) (budgets : List ℕ) (s i : ℕ) → 3 < length names → packed names budgets s i ≡ None
-many-names names budgets s i h = no-names _ _ _ (lt-leb (length names) 3 h)
-
-many-budgets : (names : List (List ℕ)) (budgets : List ℕ) (s i : ℕ) → 1 < length budgets → packed names budgets s i ≡ None
-many-budgets names budgets s i h = no-budgets (nat_le (length names) 3) (nat_le (length budgets) 1) (nat_le s 1 && nat_le i 1) _ (lt-leb (length budgets) 1 h)
-
-many-stats : (names : List (List ℕ)) (budgets : List ℕ) (s i : ℕ) → 1 < s → packed names budgets s i ≡ None
-many-stats names budgets s i h = no-stats (nat_le (length names) 3) (nat_le (length budgets) 1) (nat_le s 1) (nat_le i 1) _ (lt-leb s 1 h)
-
-many-images : (names : List (List ℕ)) (budgets : List ℕ) (s i : ℕ) → 1 < i → packed names budgets s i ≡ None
-many-images names budgets s i h = no-images (nat_le (length names) 3) (nat_le (length budgets) 1) (nat_le s 1) (nat_le i 1) _ (lt-leb i 1 h)
-
--- with these parts behind what was said
-abbrev merged : List (List ℕ) → Option ℕ → Bool → Bool → List Part → Option Said
-merged names budget stats image parts =
-    packed (names ++ names_of parts) (listed budget ++ budgets_of parts) (counted stats + count_of_stats parts) (counted image + count_of_images parts)
-
--- as few as may stand
-few : (names : List (List ℕ)) (budgets : List ℕ) (s i : ℕ) → length names ≤ 3 → length budgets ≤ 1 → s ≤ 1 → i ≤ 1
-    → packed names budgets s i ≡ Some (said names (slice_get budgets 0) (nat_lt 0 s) (nat_lt 0 i))
-few names budgets s i a b c d = four _ _ _ _ _ (le-leb (length names) 3 a) (le-leb (length budgets) 1 b) (le-leb s 1 c) (le-leb i 1 d)
-  where
-    four : (a b c d : Bool) (x : Option Said) → a ≡ true → b ≡ true → c ≡ true → d ≡ true → (if a && (b && (c && d)) then x else None) ≡ x
-    four true true true true x e f g h = refl
-    four false b c d x e f g h = absurd (false≢true e)
-    four true false c d x e f g h = absurd (false≢true f)
-    four true true false d x e f g h = absurd (false≢true g)
-    four true true true false x e f g h = absurd (false≢true h)
-
-is-flag : (b : Bool) → nat_lt 0 (counted b + 0) ≡ b
-is-flag true = refl
-is-flag false = refl
-
-at-most-one : (b : Bool) → counted b + 0 ≤ 1
-at-most-one true = omega arith
-at-most-one false = omega arith
-
-is-listed : (o : Option ℕ) → slice_get (listed o ++ []) 0 ≡ o
-is-listed None = refl
-is-listed (Some n) = refl
-
-one-listed : (o : Option ℕ) → length (listed o ++ []) ≤ 1
-one-listed None = omega arith
-one-listed (Some n) = omega arith
-
--- nothing behind what was said
-none-behind : (names : List (List ℕ)) (budget : Option ℕ) (stats image : Bool) → length names ≤ 3 → Some (said names budget stats image) ≡ merged names budget stats image []
-none-behind names budget stats image h =
-    let short : length (names ++ []) ≤ 3 = subst (λ x. length x ≤ 3) (sym (append-nil names)) h in
-    sym (few (names ++ []) (listed budget ++ []) (counted stats + 0) (counted image + 0) short (one-listed budget) (at-most-one stats) (at-most-one image)
-    ∙ ap (λ x. Some (said x (slice_get (listed budget ++ []) 0) (nat_lt 0 (counted stats + 0)) (nat_lt 0 (counted image + 0)))) (append-nil names)
-    ∙ ap (λ x. Some (said names x (nat_lt 0 (counted stats + 0)) (nat_lt 0 (counted image + 0)))) (is-listed budget)
-    ∙ ap (λ x. Some (said names budget x (nat_lt 0 (counted image + 0)))) (is-flag stats)
-    ∙ ap (λ x. Some (said names budget stats x)) (is-flag image))
-
--- a name in front of other parts
-one-name : (names : List (List ℕ)) (budget : Option ℕ) (stats image : Bool) (word : List ℕ) (rest : List Part) → length names ≤ 3 → (b : Bool) → nat_le (length names) 2 ≡ b
-    → (length (names ++ word ∷ []) ≤ 3 → added_all (said (names ++ word ∷ []) budget stats image) rest ≡ merged (names ++ word ∷ []) budget stats image rest)
-    → option_and_then (λ more. added_all more rest) (if b then Some (said (names ++ word ∷ []) budget stats image) else None) ≡ merged names budget stats image (a_name word ∷ rest)
-one-name names budget stats image word rest h true e go =
-    let room : length names ≤ 2 = leb-true (length names) 2 e in
-    let both : length (names ++ word ∷ []) ≡ length names + length (word ∷ []) = length-append names (word ∷ []) in
-    go (omega (arith, room, both))
-    ∙ ap (λ x. packed x (listed budget ++ budgets_of rest) (counted stats + count_of_stats rest) (counted image + count_of_images rest)) (append_assoc names (word ∷ []) (names_of rest))
-one-name names budget stats image word rest h false e go =
-    let full : 2 < length names = leb-false (length names) 2 e in
-    let both : length (names ++ (word ∷ names_of rest)) ≡ length names + length (word ∷ names_of rest) = length-append names (word ∷ names_of rest) in
-    sym (many-names (names ++ (word ∷ names_of rest)) (listed budget ++ budgets_of rest) (counted stats + count_of_stats rest) (counted image + count_of_images rest) (omega (arith, full, both)))
-
--- parts that are added one after another
-added-all : (names : List (List ℕ)) (budget : Option ℕ) (stats image : Bool) (parts : List Part) → length names ≤ 3
-    → added_all (said names budget stats image) parts ≡ merged names budget stats image parts
-unfolding added_all
-added-all names budget stats image [] h = none-behind names budget stats image h
-added-all names budget stats image (a_name word ∷ rest) h =
-    one-name names budget stats image word rest h (nat_le (length names) 2) refl (λ room. added-all (names ++ word ∷ []) budget stats image rest room)
-added-all names None stats image (a_budget number ∷ rest) h = added-all names (Some number) stats image rest h
-added-all names (Some had) stats image (a_budget number ∷ rest) h = sym (many-budgets (names ++ names_of rest) (had ∷ number ∷ budgets_of rest) (counted stats + count_of_stats rest) (counted image + count_of_images rest) (omega arith))
-added-all names budget true image (the_stats ∷ rest) h = sym (many-stats (names ++ names_of rest) (listed budget ++ budgets_of rest) (1 + suc (count_of_stats rest)) (counted image + count_of_images rest) (omega arith))
-added-all names budget false image (the_stats ∷ rest) h =
-    let same : 1 + count_of_stats rest ≡ 0 + suc (count_of_stats rest) = omega arith in
-    added-all names budget true image rest h
-    ∙ ap (λ x. packed (names ++ names_of rest) (listed budget ++ budgets_of rest) x (counted image + count_of_images rest)) same
-added-all names budget stats true (the_image ∷ rest) h = sym (many-images (names ++ names_of rest) (listed budget ++ budgets_of rest) (counted stats + count_of_stats rest) (1 + suc (count_of_images rest)) (omega arith))
-added-all names budget stats false (the_image ∷ rest) h =
-    let same : 1 + count_of_images rest ≡ 0 + suc (count_of_images rest) = omega arith in
-    added-all names budget stats true rest h
-    ∙ ap (λ x. packed (names ++ names_of rest) (listed budget ++ budgets_of rest) (counted stats + count_of_stats rest) x) same
-
-zero-more : (n : ℕ) → 0 + n ≡ n
-zero-more n = omega arith
-
--- from nothing on they say what they say together
-from-nothing : (parts : List Part) → added_all nothing parts ≡ said_by parts
-from-nothing parts =
-    added-all [] None false false parts (omega arith)
-    ∙ ap (λ x. packed (names_of parts) (budgets_of parts) x (0 + count_of_images parts)) (zero-more (count_of_stats parts))
-    ∙ ap (λ x. packed (names_of parts) (budgets_of parts) (count_of_stats parts) x) (zero-more (count_of_images parts))
-
-all-from-nothing : (parts : Option (List Part)) → option_and_then (added_all nothing) parts ≡ option_and_then said_by parts
-all-from-nothing None = refl
-all-from-nothing (Some parts) = from-nothing parts
-
-pub said-from-nothing : (words : List (List ℕ)) → said_with nothing false words ≡ option_and_then said_by (parts_from false words)
-said-from-nothing words = all-from-nothing (parts_from false words)
+-- so what words ask for is what their parts say together
+pub asked-from-nothing : (command : List ℕ) (parts : Option (List Part)) → option_and_then (asked_by command) (option_and_then (added_all nothing) parts) ≡ option_and_then (asked_by command) (option_and_then said_by parts)
+asked-from-nothing command None = refl
+asked-from-nothing command (Some parts) = same-asked command nothing parts
 
 -- nothing comes of what can't be added
 never : (o : Option Said) → option_and_then (λ t. option_and_then (added_all t) None) o ≡ None

@@ -8,8 +8,9 @@ use Rattle.std.proofs.lemmas.Slice.Eq.{bytes_eq-Decides}
 use Rattle.std.proofs.lemmas.List.{take-append-drop}
 use Rattle.sts_words.specs.Numbers.{number_within}
 use Rattle.sts_words.specs.Orders.{Asked, most_budget}
-use Rattle.sts_words.specs.Words.{Part, a_name, a_budget, the_stats, the_image, is_name, SpellPart, Spell, said_by, asked_by, AskFor, IsAskedBy}
-use Rattle.sts_words.specs.Reading.{behind_budget, budget_part, joined_part, part_of, in_front, parts_from, order_of}
+use Rattle.sts_words.specs.Words.{Part, a_name, a_budget, the_stats, the_image, is_name, SpellPart, Spell, nothing, asked_by, AskFor, IsAskedBy}
+use Rattle.sts_words.specs.Reading.{behind_budget, budget_part, joined_part, part_of, in_front, parts_from, added_all, order_of}
+use Rattle.sts_words.proofs.Parts.{asked-from-nothing}
 
 -- a word that is equal to a text is that text
 pub same-text : (word text : List ℕ) → bytes_eq word text ≡ true → word ≡ text
@@ -156,10 +157,10 @@ spelled false (word ∷ rest) parts e =
     spelled-by word rest parts (bytes_eq word (codes "--budget")) refl (λ ps h. spelled true rest ps h) (λ ps h. spelled false rest ps h) e
 
 found : (command : List ℕ) (words : List (List ℕ)) (asked : Asked) (o : Option (List Part)) → parts_from false words ≡ o
-    → option_and_then (asked_by command) (option_and_then said_by o) ≡ Some asked → AskFor (command ∷ words) asked
+    → option_and_then (asked_by command) (option_and_then (added_all nothing) o) ≡ Some asked → AskFor (command ∷ words) asked
 found command words asked None is e = cc
 found command words asked (Some parts) is e =
-    record { command = command; behind = words; parts = parts; are = refl; spelled = spelled false words parts is; taken = e }
+    record { command = command; behind = words; parts = parts; are = refl; spelled = spelled false words parts is; taken = sym (asked-from-nothing command (Some parts)) ∙ e }
 
 ask-for : (words : List (List ℕ)) (asked : Asked) → order_of words ≡ Some asked → AskFor words asked
 ask-for [] asked e = cc
@@ -167,7 +168,7 @@ ask-for (command ∷ words) asked e = found command words asked (parts_from fals
 
 order-some : (words : List (List ℕ)) (asked : Asked) → AskFor words asked → order_of words ≡ Some asked
 order-some words asked a =
-    ap order_of a.are ∙ ap (λ o. option_and_then (asked_by a.command) (option_and_then said_by o)) (all-read a.parts a.behind a.spelled) ∙ a.taken
+    ap order_of a.are ∙ ap (λ o. option_and_then (asked_by a.command) (option_and_then (added_all nothing) o)) (all-read a.parts a.behind a.spelled) ∙ asked-from-nothing a.command (Some a.parts) ∙ a.taken
 
 some-order : (asked : Asked) (o : Option Asked) → None ≡ o → o ≡ Some asked → ⊥
 some-order asked o e f = cc

@@ -44,10 +44,9 @@ HasBudget budget = ForSome budget IsBudget
 
 -- the numbers of an order are in range
 abbrev pub IsInRange : Order → Type 0
-IsInRange (Check name) = Unit {0}
-IsInRange (Build name) = Unit {0}
 IsInRange (Run program script budget stats image) = IsBudget budget
 IsInRange (RunHex image script budget) = IsBudget budget
 IsInRange (RunAt program script arrivals budget) = IsBudget budget
 IsInRange (Class name budget) = IsBudget budget
 IsInRange (Big size budget stats) = ((1 ≤ size) × (size ≤ most_size)) × IsBudget budget
+IsInRange _ = Unit {0}

@@ -1,10 +1,10 @@
 -- The reader of the words behind a command, as a function on lists: what `Given` has after one word more. What words ask for is said without it.
-use Rattle.std.specs.Prelude.{ℕ, nat_le, Bool, true, false, List, [], ◌∷◌, ◌++◌, length, take, drop, if◌then◌else◌, is_some, codes, option_and_then, Option, Some, None}
+use Rattle.std.specs.Prelude.{ℕ, nat_le, Bool, true, false, List, [], ◌∷◌, length, take, drop, if◌then◌else◌, codes, option_and_then, Option, Some, None}
 use Rattle.std.specs.Option.{option_map}
 use Rattle.std.specs.Str.{bytes_eq}
 use Rattle.sts_words.specs.Numbers.{number_within}
 use Rattle.sts_words.specs.Orders.{Asked, most_budget}
-use Rattle.sts_words.specs.Words.{Part, a_name, a_budget, the_stats, the_image, Said, is_name, said_by, asked_by}
+use Rattle.sts_words.specs.Words.{Part, a_name, a_budget, the_stats, the_image, Said, is_name, nothing, also_said, asked_by}
 
 -- what stands behind `--budget=` in a word that begins so
 abbrev pub behind_budget : List ℕ → Option (List ℕ)
@@ -42,22 +42,10 @@ parts_from awaits (word ∷ rest) =
     else if bytes_eq word (codes "--budget") then parts_from true rest
     else in_front (part_of word) (parts_from false rest)
 
--- what words ask for, if they are taken
-abbrev pub order_of : List (List ℕ) → Option Asked
-order_of [] = None
-order_of (command ∷ words) = option_and_then (asked_by command) (option_and_then said_by (parts_from false words))
-
--- nothing is said yet
-abbrev pub nothing : Said
-nothing = record { names = []; budget = None; stats = false; image = false }
-
--- what is said with one more part, where that option doesn't stand yet
+-- what is said with one more part; no command takes a fourth name, so none is read
 abbrev pub added : Said → Part → Option Said
-added said (a_name word) =
-    if nat_le (length said.names) 2 then Some (record said { names = said.names ++ word ∷ [] }) else None
-added said (a_budget number) = if is_some said.budget then None else Some (record said { budget = Some number })
-added said the_stats = if said.stats then None else Some (record said { stats = true })
-added said the_image = if said.image then None else Some (record said { image = true })
+added said (a_name word) = if nat_le (length said.names) 2 then also_said said (a_name word) else None
+added said part = also_said said part
 
 -- the same with parts in turn
 unfoldable pub added_all : Said → List Part → Option Said
@@ -67,6 +55,11 @@ added_all said (part ∷ rest) = option_and_then (λ more. added_all more rest) 
 -- what is said with the parts that these words are
 abbrev pub said_with : Said → Bool → List (List ℕ) → Option Said
 said_with said awaits words = option_and_then (added_all said) (parts_from awaits words)
+
+-- what words ask for, if they are taken
+abbrev pub order_of : List (List ℕ) → Option Asked
+order_of [] = None
+order_of (command ∷ words) = option_and_then (asked_by command) (said_with nothing false words)
 
 -- what is said with one more word, and whether the number of a budget is due behind it
 abbrev pub next : Said → Bool → List ℕ → Option (Said × Bool)

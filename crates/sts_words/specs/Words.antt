@@ -1,5 +1,5 @@
 -- Which lists of words are taken, and what they ask for.
-use Rattle.std.specs.Prelude.{◌≡◌, ◌⊎◌, ℕ, ◌==◌, ◌&&◌, ◌||◌, nat_le, nat_lt, is_some, Bool, true, false, not, List, [], ◌∷◌, ◌++◌, length, slice_get, unwrap_or, if◌then◌else◌, codes, option_and_then, filter, filter_map, Option, Some, None, IsTrue}
+use Rattle.std.specs.Prelude.{◌≡◌, ◌⊎◌, ℕ, ◌==◌, ◌&&◌, ◌||◌, is_some, Bool, true, false, not, List, [], ◌∷◌, ◌++◌, unwrap_or, if◌then◌else◌, codes, option_and_then, Option, Some, None, IsTrue}
 use Rattle.std.specs.Option.{option_map}
 use Rattle.std.specs.Str.{bytes_eq}
 use Rattle.sts_words.specs.Numbers.{number_within}
@@ -32,37 +32,6 @@ Spell [] words = words ≡ []
 Spell (part ∷ rest) words =
     (front more : List (List ℕ)) × SpellPart part front × Spell rest more × (words ≡ front ++ more)
 
--- the name, or the number of a budget, that a part is
-abbrev pub name_in : Part → Option (List ℕ)
-name_in (a_name word) = Some word
-name_in other = None
-
-abbrev pub budget_in : Part → Option ℕ
-budget_in (a_budget number) = Some number
-budget_in other = None
-
-abbrev pub is_stats : Part → Bool
-is_stats the_stats = true
-is_stats other = false
-
-abbrev pub is_image : Part → Bool
-is_image the_image = true
-is_image other = false
-
--- the names and the budgets among parts, in their order
-abbrev pub names_of : List Part → List (List ℕ)
-names_of parts = filter_map name_in parts
-
-abbrev pub budgets_of : List Part → List ℕ
-budgets_of parts = filter_map budget_in parts
-
--- how often `--stats` and `--image` stand among parts
-abbrev pub count_of_stats : List Part → ℕ
-count_of_stats parts = length (filter is_stats parts)
-
-abbrev pub count_of_images : List Part → ℕ
-count_of_images parts = length (filter is_image parts)
-
 -- what parts say together
 pub record Said : Type 0 where
   pub names : List (List ℕ)
@@ -70,36 +39,34 @@ pub record Said : Type 0 where
   pub stats : Bool
   pub image : Bool
 
--- Each option stands at most once among these parts; and no command has more than three names.
-abbrev pub are_single : List Part → Bool
-are_single parts =
-    nat_le (length (names_of parts)) 3
-    && (nat_le (length (budgets_of parts)) 1 && (nat_le (count_of_stats parts) 1 && nat_le (count_of_images parts) 1))
+abbrev pub nothing : Said
+nothing = record { names = []; budget = None; stats = false; image = false }
 
--- what these parts say, where each option stands at most once
+-- what is said with one more part, where that option doesn't stand there yet
+abbrev pub also_said : Said → Part → Option Said
+also_said said (a_name word) = Some (record said { names = said.names ++ word ∷ [] })
+also_said said (a_budget number) = if is_some said.budget then None else Some (record said { budget = Some number })
+also_said said the_stats = if said.stats then None else Some (record said { stats = true })
+also_said said the_image = if said.image then None else Some (record said { image = true })
+
+-- the same with parts in turn, and what they say by themselves
+unfoldable pub all_also_said : Said → List Part → Option Said
+all_also_said said [] = Some said
+all_also_said said (part ∷ rest) = option_and_then (λ more. all_also_said more rest) (also_said said part)
+
 abbrev pub said_by : List Part → Option Said
-said_by parts =
-    if are_single parts
-    then Some (record {
-      names = names_of parts;
-      budget = slice_get (budgets_of parts) 0;
-      stats = nat_lt 0 (count_of_stats parts);
-      image = nat_lt 0 (count_of_images parts);
-    })
-    else None
+said_by parts = all_also_said nothing parts
 
 -- the name, where there is one
 abbrev pub one_name : List (List ℕ) → Option (List ℕ)
-one_name [] = None
 one_name (name ∷ []) = Some name
-one_name (name ∷ more ∷ rest) = None
+one_name _ = None
 
 -- one name, and that of a script or none
 abbrev pub with_script : List (List ℕ) → Option (List ℕ × Option (List ℕ))
-with_script [] = None
 with_script (name ∷ []) = Some (name, None)
 with_script (name ∷ script ∷ []) = Some (name, Some script)
-with_script (name ∷ script ∷ more ∷ rest) = None
+with_script _ = None
 
 -- the name of a command that has no options
 abbrev pub plain_name : Said → Option (List ℕ)
@@ -120,7 +87,7 @@ run_hex_by said =
 -- three names: a program's, a script's and that of arrivals
 abbrev pub with_arrivals : List (List ℕ) → Option (List ℕ × List ℕ × List ℕ)
 with_arrivals (name ∷ script ∷ arrivals ∷ []) = Some (name, script, arrivals)
-with_arrivals other = None
+with_arrivals _ = None
 
 abbrev pub run_at_by : Said → Option Asked
 run_at_by said =

@@ -3,8 +3,9 @@ ghost use Rattle.std.specs.Prelude.{◌≡◌, IfSome, false, map, string_bytes,
 ghost use Rattle.std.specs.Option.{option_map};
 ghost use Rattle.sts_words.specs.Orders.{order_view, IsInRange, IsBudget, HasBudget, default_budget};
 ghost use Rattle.sts_words.specs.Words as spec;
+ghost use Rattle.sts_words.specs.Words.{nothing};
 ghost use Rattle.sts_words.specs.Views.{said_view, names_view, named_view, next_view, spoken};
-ghost use Rattle.sts_words.specs.Reading.{next, order_of, parts_from};
+ghost use Rattle.sts_words.specs.Reading.{next, order_of, said_with};
 
 use crate::numbers::read_number;
 use crate::order::Order;
@@ -33,7 +34,7 @@ fn with_word<'a>(given: Given<'a>, awaits: bool, word: &'a str) -> Option<(Given
 /// What the words behind a command say, if each is a part and each option stands at most once.
 fn given_by<'a>(words: &'a [String]) -> Option<Given<'a>>
     ensures said { option_map said_view result
-        ≡ option_and_then spec.said_by (parts_from false (map string_bytes words.now)) }
+        ≡ said_with nothing false (map string_bytes words.now) }
     ensures range { IfSome result (λ given. HasBudget given.budget) }
 {
     let mut so_far = (Given::nothing(), false);

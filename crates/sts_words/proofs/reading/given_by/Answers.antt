@@ -1,8 +1,8 @@
 use Rattle.std.proofs.Common.{◌∙◌, ap, sym}
-use Rattle.std.specs.Prelude.{None, map, string_bytes}
+use Rattle.std.specs.Prelude.{None, string_bytes}
 use Rattle.std.specs.Option.{option_map}
 use Rattle.sts_words.specs.Views.{said_view, next_view}
-use Rattle.sts_words.proofs.Parts.{more-said, awaiting-none, nothing-left, said-from-nothing}
+use Rattle.sts_words.proofs.Parts.{more-said, awaiting-none, nothing-left}
 use Rattle.sts_words.proofs.reading.given_by.Goals as goal
 
 pub returns-in_err-so_far-clause-said : goal.returns-in_err-so_far-clause-said
@@ -11,7 +11,6 @@ returns-in_err-so_far-clause-said c =
     ∙ more-said string_bytes c.args.words.now c.loop-word.word-index c.word-item.result c.as_str.result.now (said_view c.loop-word.so_far.0) c.loop-word.so_far.1 _ None
     c.loop-word-test.true c.word-item.is c.as_str.ensures.value c.loop-word.invariant.said
     (sym (ap (option_map next_view) c.in_err-so_far.was) ∙ c.with_word.ensures.next)
-    ∙ said-from-nothing (map string_bytes c.args.words.now)
 
 pub loop-word-preserved : goal.loop-word-preserved
 loop-word-preserved c = record {
@@ -24,9 +23,9 @@ loop-word-preserved c = record {
 pub returns-then-so_far-clause-said : goal.returns-then-so_far-clause-said
 returns-then-so_far-clause-said c =
     awaiting-none string_bytes c.args.words.now c.loop-word.word-index (said_view c.loop-word.so_far.0) c.loop-word.so_far.1 _ c.loop-word-test.false c.if-so_far.true
-    (c.loop-word.invariant.said ∙ said-from-nothing (map string_bytes c.args.words.now))
+    c.loop-word.invariant.said
 
 pub returns-else-so_far-clause-said : goal.returns-else-so_far-clause-said
 returns-else-so_far-clause-said c =
     nothing-left string_bytes c.args.words.now c.loop-word.word-index (said_view c.loop-word.so_far.0) c.loop-word.so_far.1 _ c.loop-word-test.false c.if-so_far.false
-    (c.loop-word.invariant.said ∙ said-from-nothing (map string_bytes c.args.words.now))
+    c.loop-word.invariant.said
