@@ -11,17 +11,11 @@ pub record TookInto (old new : Option (List ℕ)) (whole next : List ℕ) : Type
   pub told : (had : List ℕ) → old ≡ Some had
       → (part : List ℕ) × IsPrefix part next × (new ≡ Some (had ++ (whole ++ part)))
 
--- The text that is due before these moves: the line of the observation that comes first, or what stands behind them all.
-abbrev pub text_due : List ℕ → List Move → List ℕ
-text_due behind [] = behind
-text_due behind (Seen o ∷ moves) = line o
-text_due behind (Unplugged port ∷ moves) = []
-
--- A text is due before these moves: an observation comes first, or none is left.
-abbrev pub IsDue : List Move → Type 0
-IsDue [] = Unit {0}
-IsDue (Seen o ∷ moves) = Unit {0}
-IsDue (Unplugged port ∷ moves) = ⊥
+-- This text is due before these moves: the line of the observation that comes first, or what stands behind them all.
+abbrev pub IsDue : (behind : List ℕ) → List Move → (text : List ℕ) → Type 0
+IsDue behind [] text = text ≡ behind
+IsDue behind (Seen o ∷ moves) text = text ≡ line o
+IsDue behind (Unplugged port ∷ moves) text = ⊥
 
 -- The sink stopped a run in one place: behind this line that was to come first, the lines of the moves before were taken whole and the text that
 -- was due in part, and the devices are as the moves before left them.
@@ -30,6 +24,7 @@ pub record Stopped {B : Type 0} (account : B → Account) (lead : List ℕ) (mov
   pub done : List Move
   pub left : List Move
   pub split : done ++ left ≡ moves
-  pub due : IsDue left
-  pub written : TookInto taken taken' (lead ++ lines (seen_of done)) (text_due behind left)
+  pub text : List ℕ
+  pub due : IsDue behind left text
+  pub written : TookInto taken taken' (lead ++ lines (seen_of done)) text
   pub devices : DevicesAfter account done old new

@@ -28,12 +28,10 @@ use Rattle.board_run.specs.declared.engine.Engine.{Engine}
 use Rattle.board_outside.specs.declared.output.Output.{Output}
 use Rattle.board_outside.specs.declared.output.Output.TheVariants.{Nothing, Frame, Number, Text, Pin, Radio}
 use Rattle.board_run.specs.declared.engine.Served.TheVariants.{Goes}
-use Rattle.board_run.specs.Represents.{Represents}
+use Rattle.board_run.specs.Represents.{Represents, state_of}
 use Rattle.board_outside.specs.Moves.{Move, Seen, seen_of}
-use Rattle.board_run.specs.Serving.{turned}
+use Rattle.board_run.specs.Serving.{turned, IsServed}
 use Rattle.board_outside.specs.Outputs.{moves_of}
-use Rattle.board_run.specs.Served.{IsServed}
-use Rattle.board_run.specs.View.{state_of}
 use Rattle.board_run.proofs.Acting.{Unplugless, Leaves, shared_is, goes_leaves, asks_leaves}
 
 pub output_unplugless : (flash : List ℕ) (now : ℕ) (output : Output) → Unplugless (moves_of flash now output)

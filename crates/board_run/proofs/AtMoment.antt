@@ -18,11 +18,9 @@ use Rattle.board_outside.specs.Moves.{Move}
 use Rattle.board_run.specs.declared.end.Stop.{Stop}
 use Rattle.board_run.specs.declared.engine.Engine.{Engine}
 use Rattle.board_run.specs.Shown.{of_key}
-use Rattle.board_run.specs.Represents.{Represents}
-use Rattle.board_run.specs.Idling.{IsEmpty}
-use Rattle.board_run.specs.Proceeding.{IsStayed}
-use Rattle.board_run.specs.Going.{entries_left, next_moment}
-use Rattle.board_run.specs.View.{state_of, end_of}
+use Rattle.board_run.specs.Represents.{Represents, IsEmpty, entries_left, state_of, end_of}
+use Rattle.board_run.specs.Advancing.{IsStayed}
+use Rattle.board_run.specs.Going.{next_moment}
 use Rattle.board_run.proofs.Further.{MakesTo}
 use Rattle.board_run.proofs.FiberGoesOn.{first_ready}
 use Rattle.board_run.proofs.Stepping.{some_turning}

@@ -9,10 +9,9 @@ use Rattle.board_world.specs.Board.{Entry, Raise, next_entry}
 use Rattle.board_world.specs.Waiting.{least}
 use Rattle.class_world.specs.Hearing.{inserted, with_heard, raised_at}
 use Rattle.board_run.specs.declared.engine.Engine.{Engine}
-use Rattle.board_run.specs.Idling.{IsEmpty}
-use Rattle.board_run.specs.Proceeding.{IsStayed}
-use Rattle.board_run.specs.Going.{entries_left, next_moment, IsDueAt, IsResting}
-use Rattle.board_run.specs.View.{state_of}
+use Rattle.board_run.specs.Represents.{IsEmpty, entries_left, state_of}
+use Rattle.board_run.specs.Advancing.{IsStayed}
+use Rattle.board_run.specs.Going.{next_moment, IsDueAt, IsResting}
 
 pub resting_of : (e : Engine) → IsStayed e → e.end ≡ None → e.runtime.running ≡ None → IsResting e
 resting_of e stayed going nobody = by_stay (stayed going)

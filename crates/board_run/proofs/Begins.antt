@@ -19,9 +19,8 @@ use Rattle.board_run.specs.declared.engine.Engine.{Engine}
 use Rattle.board_run.specs.Places.{PendingDispatch, ArePlaces, IsSpent, Takes}
 use Rattle.board_run.specs.Blocking.{copied_behind, IsFromRecord, IsCopiedIn}
 use Rattle.board_run.specs.Shown.{handler_turning}
-use Rattle.board_run.specs.Represents.{BoardState, Represents}
+use Rattle.board_run.specs.Represents.{BoardState, Represents, state_of}
 use Rattle.board_run.specs.Run.{Comes}
-use Rattle.board_run.specs.View.{state_of}
 use Rattle.board_run.proofs.Turns.{resumed, reinstates, invoked, next_stands}
 use Rattle.board_run.proofs.Course.{stutters}
 

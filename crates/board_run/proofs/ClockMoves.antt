@@ -25,17 +25,15 @@ use Rattle.event_script.specs.declared.script.Entry.{Entry}
 use Rattle.board_ports.specs.Account.{Account}
 use Rattle.board_ports.specs.Plugged.{Plugged}
 use Rattle.board_ports.specs.History.{FollowsMoves}
-use Rattle.board_run.specs.Ports.{Idles}
+use Rattle.board_run.specs.Outside.{Idles}
 use Rattle.board_run.specs.declared.end.Stop.{Stop}
 use Rattle.board_run.specs.declared.end.Stop.TheVariants.{Quiet as StopQuiet, Script as StopScript}
 use Rattle.board_run.specs.declared.engine.Engine.{Engine}
 use Rattle.board_run.specs.Shown.{of_key}
-use Rattle.board_run.specs.Represents.{BoardState, Represents}
+use Rattle.board_run.specs.Represents.{BoardState, Represents, IsEmpty, moves_left, state_of, end_of, plain_of}
 use Rattle.board_outside.specs.Moves.{Move, HasMet, Meets}
 use Rattle.board_run.specs.Run.{ComesTo, Comes}
-use Rattle.board_run.specs.Idling.{IsEmpty, moves_left}
 use Rattle.board_run.specs.Arriving.{acted_on, Arrived}
-use Rattle.board_run.specs.View.{state_of, end_of, plain_of}
 use Rattle.board_run.proofs.OutsideActs.{arrived}
 use Rattle.board_run.proofs.Course.{idles}
 use Rattle.board_run.proofs.FiberGoesOn.{IsPlain}

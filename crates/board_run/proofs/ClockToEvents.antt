@@ -2,7 +2,7 @@
 use Rattle.std.proofs.Common.{All, ◌<◌, OnOk, OnErr, Result, Ok, Err, ◌≡◌, ℕ, ◌≤◌, true, false, if◌then◌else◌, nat_lt, List, [], ◌∷◌, ◌++◌, length, drop, refl, ap, sym, ◌∙◌, subst, arith}
 use Rattle.std.proofs.lemmas.List.{append-nil}
 use Rattle.board_world.specs.declared.events.Event.{Event}
-use Rattle.board_world.specs.Limits.{queue_limit}
+use Rattle.board_world.specs.Limits.{queue_limit, end_limit}
 use Rattle.board_world.specs.Board.{Board, raised, arrive_all}
 use Rattle.board_world.specs.Activities.{World}
 use Rattle.board_world.specs.World.{jump}
@@ -16,14 +16,11 @@ use Rattle.board_ports.specs.Plugged.{Plugged}
 use Rattle.board_outside.specs.Moves.{Meets}
 use Rattle.board_run.specs.declared.engine.Engine.{Engine}
 use Rattle.board_run.specs.Arriving.{Arrived, acted_on}
-use Rattle.board_run.specs.Represents.{Represents}
-use Rattle.board_world.specs.Limits.{end_limit}
+use Rattle.board_run.specs.Represents.{Represents, IsShown, state_of, plain_of}
 use Rattle.thumb_code.specs.Map.{flash_end}
 use Rattle.event_script.specs.Sound.{IsSound}
 use Rattle.board_run.specs.declared.end.Counts.{Counts}
 use Rattle.board_run.specs.Advancing.{IsWhole}
-use Rattle.board_run.specs.Represents.{IsShown}
-use Rattle.board_run.specs.View.{state_of, plain_of}
 use Rattle.class_world.specs.Hearing.{with_heard, raised_at}
 use Rattle.class_world.specs.Keeping.{raised_all, with_kept}
 use Rattle.class_world.proofs.Laws.{kept_arrives}

@@ -30,6 +30,7 @@ module _ {B : Type 0} (settled : B → Type 0) (account : B → Account) (b : Ov
           done = c.stopped.done;
           left = c.stopped.left;
           split = c.stopped.split;
+          text = c.stopped.text;
           due = c.stopped.due;
           written = c.stopped.written;
           devices = devices_closed c.stopped.done old.places c.stopped.devices;

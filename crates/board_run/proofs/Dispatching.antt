@@ -14,11 +14,9 @@ use Rattle.fiber_runtime.specs.Moves.{Woken}
 use Rattle.board_run.specs.declared.end.Stop.{Stop}
 use Rattle.board_run.specs.declared.engine.Engine.{Engine}
 use Rattle.board_run.specs.Places.{PendingDispatch, ArePlaces, place_for}
-use Rattle.board_run.specs.Represents.{Represents}
+use Rattle.board_run.specs.Represents.{Represents, IsEmpty, moves_left, state_of, end_of}
 use Rattle.board_outside.specs.Moves.{HasMet}
 use Rattle.board_run.specs.Run.{Comes}
-use Rattle.board_run.specs.Idling.{IsEmpty, moves_left}
-use Rattle.board_run.specs.View.{state_of, end_of}
 use Rattle.board_run.proofs.Course.{idles}
 use Rattle.board_outside.proofs.Laws.{met_then, meets_nothing}
 use Rattle.board_run.proofs.Raises.{nobody_ready, dispatched}

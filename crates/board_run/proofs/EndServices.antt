@@ -27,11 +27,9 @@ use Rattle.board_run.specs.declared.engine.Engine.{Engine}
 use Rattle.board_outside.specs.declared.output.Output.TheVariants.{Nothing}
 use Rattle.board_run.specs.declared.engine.Served.TheVariants.{Goes}
 use Rattle.board_run.specs.Places.{PendingDispatch, ArePlaces, place_for}
-use Rattle.board_run.specs.Represents.{Represents, IsShown, behind}
+use Rattle.board_run.specs.Represents.{Represents, IsShown, behind, state_of}
 use Rattle.board_outside.specs.Moves.{Meets}
-use Rattle.board_run.specs.Serving.{StopsAt}
-use Rattle.board_run.specs.Served.{IsServed}
-use Rattle.board_run.specs.View.{state_of}
+use Rattle.board_run.specs.Serving.{StopsAt, IsServed}
 use Rattle.board_run.proofs.FiberGoesOn.{current, first_ready}
 use Rattle.board_run.proofs.Ends.{IsSameBus, same_ended, ends_keyed, ends_keyless, begins_anew}
 use Rattle.board_run.proofs.Raises.{raises_now, raises_to_waiters, raises_too_deep, behind_suspended}

@@ -1,5 +1,5 @@
 -- The running fiber ends, or begins again.
-use Rattle.std.proofs.Common.{◌≡◌, ℕ, zero, suc, ◌-◌, true, false, List, [], ◌∷◌, length, map, Some, None, is_some, refl, sym, ap, ◌∙◌, subst, arith}
+use Rattle.std.proofs.Common.{◌≡◌, ℕ, zero, suc, ◌-◌, true, false, List, [], ◌∷◌, length, map, Option, Some, None, is_some, refl, sym, ap, ◌∙◌, subst, arith}
 use Rattle.slab.specs.Slab.{slab_len}
 use Rattle.thumb_code.specs.Machine.{begun, return_of}
 use Rattle.board_world.specs.declared.events.Event.{Event}
@@ -14,6 +14,7 @@ use Rattle.message_bus.specs.ListenerState.{ListenerState, ended, ended_with}
 use Rattle.message_bus.specs.BusState.{BusState, changed}
 use Rattle.message_bus.specs.Agreement.{Agrees, hearings}
 use Rattle.message_bus.proofs.Laws.{ends-agrees}
+use Rattle.std.specs.Prelude.{IfSome}
 use Rattle.fiber_runtime.specs.declared.turning.Turning.{Turning}
 use Rattle.fiber_runtime.specs.declared.turning.Raiser.{Raiser}
 use Rattle.bank_model.specs.Standing.{words_in, fiber_on}
@@ -24,7 +25,7 @@ use Rattle.fiber_queues.proofs.Laws.{how_often-listed}
 use Rattle.fiber_runtime.proofs.Laws.{sound_ended, sound_keyless, sound_named, own_key_once, no_words}
 use Rattle.board_run.specs.Places.{ArePlaces}
 use Rattle.board_run.specs.Shown.{acting, standing}
-use Rattle.board_run.specs.Represents.{BoardState, RunnerRecorded, Represents, behind}
+use Rattle.board_run.specs.Represents.{BoardState, IsRecorded, Represents, behind}
 use Rattle.board_run.proofs.Standing.{standing_heard, keys_same, keyed_same}
 use Rattle.board_run.proofs.FiberGoesOn.{current, IsPlain, first_ready, below, others_kept}
 
@@ -160,7 +161,7 @@ module _ (image : List ℕ) (b : BoardState) (w : World Fiber Shared) (h : Repre
       subst (Represents image (record b { runtime = runtime; bus = bus })) (sym turn) (record {
         sound = sound_named t t' b.runtime (machine_started (handler_of i hs) base b.runtime.machine) h.sound runs refl;
         stands = (record { span = rw empty (omega arith); inside = λ some. absurd (let z : length (words_in stack base base) ≡ 0 = ap length empty in omega (arith, some, z)) }, (below image b w h t runs).1);
-        runner = subst RunnerRecorded runs h.runner;
+        runner = subst (λ (o : Option Turning). IfSome o IsRecorded) runs h.runner;
         nested = h.nested;
         stack = h.stack;
         places = places_heard bus s;

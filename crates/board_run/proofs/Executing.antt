@@ -24,13 +24,11 @@ use Rattle.event_script.specs.Sound.{IsSound}
 use Rattle.board_run.specs.declared.end.Counts.{Counts}
 use Rattle.board_run.specs.declared.end.Stop.{Stop}
 use Rattle.board_run.specs.declared.engine.Engine.{Engine}
-use Rattle.board_run.specs.Represents.{BoardState, Represents, IsShown}
+use Rattle.board_run.specs.Represents.{BoardState, Represents, IsShown, state_of, end_of}
 use Rattle.board_run.specs.Run.{ComesTo, Comes, ComesThrough}
-use Rattle.board_run.specs.Served.{Steps}
-use Rattle.board_run.specs.Outside.{OverSink}
+use Rattle.board_run.specs.Serving.{Steps}
+use Rattle.board_run.specs.Outside.{OverSink, PortsMeet, Idles}
 use Rattle.board_run.specs.Advancing.{led_lines, Way, of_run, ComesBy, Advances, Fails, IsWhole}
-use Rattle.board_run.specs.Ports.{PortsMeet, Idles}
-use Rattle.board_run.specs.View.{state_of, end_of}
 use Rattle.board_run.proofs.Course.{comes_shown, shown_reaches, stutters}
 use Rattle.board_run.proofs.Further.{through_then, through_none, through_one}
 

@@ -30,13 +30,11 @@ use Rattle.board_run.specs.declared.end.Stop.{Stop}
 use Rattle.board_run.specs.declared.end.Stop.TheVariants.{Quiet as StopQuiet, Script as StopScript, Panic as StopPanic, Fault as StopFault}
 use Rattle.board_run.specs.declared.end.End.{End}
 use Rattle.board_run.specs.declared.engine.Engine.{Engine}
-use Rattle.board_run.specs.Represents.{Represents}
+use Rattle.board_run.specs.Represents.{Represents, state_of, end_of}
 use Rattle.board_run.specs.Run.{Reaches}
-use Rattle.board_run.specs.Outside.{Outside, OverSink, around}
+use Rattle.board_run.specs.Outside.{Outside, OverSink, around, PortsMeet}
 use Rattle.board_run.specs.Advancing.{of_run, Advances, Fails, IsSettled}
-use Rattle.board_run.specs.Ports.{PortsMeet}
 use Rattle.board_run.specs.Ran.{world_after, IsMounted, IsExecuted, HasRun, IsCut, told, answer_of, Finishes, Ran}
-use Rattle.board_run.specs.View.{state_of, end_of}
 use Rattle.board_run.proofs.Executing.{plain_lines}
 use Rattle.board_run.proofs.FiberGoesOn.{first_ready}
 use Rattle.board_run.proofs.Stepping.{some_turning}
@@ -191,7 +189,8 @@ module _ {B : Type 0} (account : B → Account) (image : List ℕ) (script : Scr
           done = a.moves;
           left = [];
           split = append-nil a.moves;
-          due = tt;
+          text = closing_line (after []).board.clock (after []).board.end;
+          due = refl;
           written = record {
             told = λ had q.
                 let closing : closing_line e.clock (option_map end_of e.end) ≡ closing_line (after []).board.clock (after []).board.end =
@@ -243,7 +242,8 @@ module _ {B : Type 0} (account : B → Account) (image : List ℕ) (script : Scr
           done = g.done;
           left = Seen g.last ∷ (idle.0 ++ further.0);
           split = sym (ap (λ l. l ++ further.0) (append_assoc g.done (Seen g.last ∷ []) idle.0) ∙ append_assoc g.done (Seen g.last ∷ idle.0) further.0);
-          due = tt;
+          text = line g.last;
+          due = refl;
           written = subst (λ l. TookInto first.taken b.taken l (line g.last)) (plain_lines (seen_of g.done)) g.written;
           devices = ports_after g.done b.board.plugs g.ports;
         };

@@ -15,11 +15,10 @@ use Rattle.bank_model.specs.BoardMachine.{fibers}
 use Rattle.board_outside.specs.Moves.{Move, seen_of}
 use Rattle.board_outside.proofs.Laws.{seen_of-append}
 use Rattle.board_run.specs.declared.engine.Engine.{Engine}
-use Rattle.board_run.specs.Represents.{BoardState, Represents}
+use Rattle.board_run.specs.Represents.{BoardState, Represents, entries_left, state_of}
 use Rattle.board_run.specs.Run.{Reaches}
-use Rattle.board_run.specs.Proceeding.{IsBusy, IsStayed}
-use Rattle.board_run.specs.Going.{entries_left, next_moment, IsResting, Shows, LeadsTo, Sees}
-use Rattle.board_run.specs.View.{state_of}
+use Rattle.board_run.specs.Advancing.{IsBusy, IsStayed}
+use Rattle.board_run.specs.Going.{next_moment, IsResting, Shows, LeadsTo, Sees}
 use Rattle.board_run.proofs.Raises.{nobody_ready}
 use Rattle.board_run.proofs.Further.{MakesTo, before_or_not}
 use Rattle.board_run.proofs.Course.{busy_to}

@@ -12,7 +12,7 @@ use Rattle.fiber_runtime.specs.State.{State}
 use Rattle.board_run.specs.declared.engine.Engine.{Engine}
 use Rattle.board_outside.specs.declared.output.Output.TheVariants.{Nothing}
 use Rattle.board_run.specs.declared.engine.Served.TheVariants.{Goes}
-use Rattle.board_run.specs.Served.{IsServed}
+use Rattle.board_run.specs.Serving.{IsServed}
 use Rattle.board_run.proofs.AskServices.{answered_by, goes_back}
 
 length_bytes : (flash : List ℕ) (n at : ℕ) → length (flash_bytes flash n at) ≡ n

@@ -7,7 +7,7 @@ use Rattle.bank_model.specs.BoardMachine.{fibers}
 use Rattle.board_outside.specs.Moves.{Move}
 use Rattle.board_run.specs.Represents.{BoardState}
 use Rattle.board_run.specs.Run.{idled_to, run_to, Reaches, ComesTo, ComesThrough}
-use Rattle.board_run.specs.Proceeding.{IsBusy}
+use Rattle.board_run.specs.Advancing.{IsBusy}
 use Rattle.board_run.proofs.FiberGoesOn.{first_ready}
 use Rattle.board_run.proofs.Stepping.{some_turning}
 use Rattle.board_run.proofs.Course.{busy_to}

@@ -8,8 +8,7 @@ use Rattle.board_outside.specs.declared.output.Output.TheVariants.{Nothing, Fram
 use Rattle.board_outside.specs.Moves.{seen_of}
 use Rattle.board_outside.specs.Outputs.{moves_of}
 use Rattle.board_outside.specs.Cuts.{TookInto}
-use Rattle.board_run.specs.Advancing.{led_lines}
-use Rattle.board_run.specs.Proceeding.{lead_before}
+use Rattle.board_run.specs.Advancing.{led_lines, lead_before}
 
 pub led_told : (lead : ByteList) (flash : List ℕ) (now : ℕ) (output : Output) → lead_before lead output ++ lines (seen_of (moves_of flash now output)) ≡ led_lines lead (seen_of (moves_of flash now output))
 led_told lead flash now Nothing = refl

@@ -10,7 +10,15 @@ use Rattle.board_world.specs.Waiting.{least, how_many, none, held_by, handler_of
 use Rattle.board_world.specs.Activities.{Activity, World, handlers, woken}
 use Rattle.board_world.specs.World.{moved, clock_moves, idle_while, idle_bound, idled, lacks_seat, ends_with, ends, acted, stepped, tick}
 use Rattle.board_world.proofs.Laws.{if_keeps}
-use Rattle.board_run.specs.Others.{many, many_waiting, standing_in}
+use Rattle.board_run.specs.Others.{standing_in}
+
+-- how many of these activities there are whose own state passes a test
+abbrev many : {A : Type 0} → (A → Bool) → List (Activity A) → ℕ
+many test xs = how_many (λ a. test a.self) xs
+
+-- the same of activities that stand beside what they wait for
+abbrev many_waiting : {A W : Type 0} → (A → Bool) → List (W × Activity A) → ℕ
+many_waiting test xs = how_many (λ x. test x.1.self) xs
 
 module _ {X : Type 0} (test : X → Bool) where
   grows : (x : X) (xs : List X) → how_many test xs ≤ how_many test (x ∷ xs)

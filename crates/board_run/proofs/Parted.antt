@@ -18,12 +18,11 @@ use Rattle.board_ports.specs.Plugged.{Plugged}
 use Rattle.board_ports.specs.History.{FollowsMoves}
 use Rattle.board_outside.specs.Ports.{port_moves}
 use Rattle.board_run.specs.declared.engine.Engine.{Engine}
-use Rattle.board_run.specs.Represents.{Represents}
+use Rattle.board_run.specs.Represents.{Represents, state_of, plain_of, end_of}
 use Rattle.board_run.specs.Arriving.{unplugs_of, acted_on, Applied}
 use Rattle.board_run.specs.Advancing.{IsWhole}
-use Rattle.board_run.specs.Ports.{PortsMeet}
+use Rattle.board_run.specs.Outside.{PortsMeet}
 use Rattle.board_run.specs.Parting.{MayArrive, Arrives}
-use Rattle.board_run.specs.View.{state_of, plain_of, end_of}
 use Rattle.board_run.proofs.FiberGoesOn.{IsPlain}
 use Rattle.board_run.proofs.OutsideActs.{arrived}
 

@@ -15,15 +15,12 @@ use Rattle.board_outside.specs.Outputs.{moves_of, IsSeen}
 use Rattle.board_outside.specs.Cuts.{TookInto}
 use Rattle.board_outside.proofs.Laws.{seen_of-append}
 use Rattle.board_run.specs.declared.engine.Engine.{Engine}
-use Rattle.board_run.specs.Represents.{IsShown}
+use Rattle.board_run.specs.Represents.{IsShown, state_of}
 use Rattle.board_run.specs.Run.{Comes, ComesTo}
-use Rattle.board_run.specs.Served.{Steps}
-use Rattle.board_run.specs.Advancing.{IsWhole, led_lines, Fails}
-use Rattle.board_run.specs.Ports.{PortsMeet}
+use Rattle.board_run.specs.Serving.{Steps}
+use Rattle.board_run.specs.Advancing.{IsWhole, led_lines, Fails, first_sent, Proceeds, Stands, IsBusy, of_moment}
+use Rattle.board_run.specs.Outside.{PortsMeet, OverSink}
 use Rattle.board_run.specs.declared.board.Board.{Board}
-use Rattle.board_run.specs.Outside.{OverSink}
-use Rattle.board_run.specs.Proceeding.{first_sent, Proceeds, Stands, IsBusy, of_moment}
-use Rattle.board_run.specs.View.{state_of}
 use Rattle.board_run.proofs.Course.{comes_then}
 use Rattle.board_run.proofs.Further.{through_one}
 use Rattle.board_run.proofs.Executing.{none_yet, same_flash, advances_none, advances_then, fails_one, whole_after}

@@ -11,29 +11,28 @@ use Rattle.board_world.specs.Activities.{Activity, World, woken, handlers, holdi
 use Rattle.board_world.specs.Kinds.{RaisesNow}
 use Rattle.board_world.specs.Observations.{Panicked}
 use Rattle.fiber_runtime.proofs.Laws.{inside_fits, sound_machine, sound_suspended, sound_woken, sound_awake, once_most}
-use Rattle.fiber_queues.proofs.Laws.{how_often-listed}
+use Rattle.fiber_queues.proofs.Laws.{how_often-listed, chosen-keyed, left-keyed, how_often-parted}
 use Rattle.board_world.specs.World.{acted, dispatch, jump, stops}
 use Rattle.bank_model.specs.Fibers.{Fiber, Shared, begins_on}
 use Rattle.bank_model.specs.BoardMachine.{fibers}
 use Rattle.fiber_pool.specs.Kept.{Kept}
 use Rattle.fiber_queues.specs.Calls.{keyed, due_woken}
-use Rattle.fiber_queues.proofs.Laws.{chosen-keyed, left-keyed, how_often-parted}
 use Rattle.message_bus.specs.ListenerState.{heard}
 use Rattle.message_bus.specs.BusState.{BusState}
 use Rattle.message_bus.specs.Agreement.{Agrees, hearings}
 use Rattle.message_bus.proofs.Laws.{begun-agrees, raise_now-agrees, dispatch-agrees, many-append, jump-agrees, begun-mapped, rising-beginning, handler-heard}
+use Rattle.std.specs.Prelude.{IfSome}
 use Rattle.fiber_runtime.specs.declared.turning.Turning.{Turning}
 use Rattle.fiber_runtime.specs.declared.turning.Raiser.{Raiser}
-use Rattle.bank_model.specs.Standing.{fiber_on}
+use Rattle.bank_model.specs.Standing.{fiber_on, shared_on}
 use Rattle.fiber_runtime.specs.State.{State}
 use Rattle.fiber_queues.specs.Keys.{how_often}
 use Rattle.fiber_runtime.specs.Sound.{IsSound, IsNested, IsStanding, once}
 use Rattle.fiber_runtime.specs.Moves.{Woken, suspended}
 use Rattle.board_run.specs.Places.{PendingDispatch, ArePlaces, IsSpent, place_for}
 use Rattle.message_bus.specs.Numbers.{IsRising, beginning}
-use Rattle.bank_model.specs.Standing.{shared_on}
 use Rattle.board_run.specs.Shown.{acting, running_of, of_raiser, of_key, begun_as, unbegun, standing}
-use Rattle.board_run.specs.Represents.{BoardState, RunnerRecorded, Represents, behind}
+use Rattle.board_run.specs.Represents.{BoardState, IsRecorded, Represents, behind}
 use Rattle.board_run.proofs.Standing.{standing_heard, keys_same, keyed_same, keys_woken}
 use Rattle.board_run.proofs.FiberGoesOn.{current, IsPlain, IsOnward, first_ready, below, behind_same}
 use Rattle.board_run.proofs.Turns.{nobody_before}
@@ -146,7 +145,7 @@ module _ (image : List ℕ) (b : BoardState) (w : World Fiber Shared) (h : Repre
         sound = subst IsSound k.rest (sound_woken e mid new s0 k);
         stands = (omega arith, o.inside, nested);
         runner = tt;
-        nested = (subst RunnerRecorded runs h.runner, h.nested);
+        nested = (subst (λ (o : Option Turning). IfSome o IsRecorded) runs h.runner, h.nested);
         stack = o.keeps.size ∙ h.stack;
         places = (rising, subst (λ n. ArePlaces n b.runtime.raisers b.places) (sym count) h.places);
         flash = o.keeps.flash ∙ h.flash;

@@ -11,10 +11,9 @@ use Rattle.bank_model.specs.AllServices.{service}
 use Rattle.board_run.specs.declared.engine.Engine.{Engine}
 use Rattle.board_run.specs.declared.engine.Served.{Served}
 use Rattle.board_run.specs.declared.engine.Served.TheVariants.{Goes, Stops}
-use Rattle.board_run.specs.Represents.{behind}
+use Rattle.board_run.specs.Represents.{behind, state_of, end_of}
 use Rattle.board_outside.specs.Outputs.{moves_of}
-use Rattle.board_run.specs.Served.{IsServed}
-use Rattle.board_run.specs.View.{state_of, end_of}
+use Rattle.board_run.specs.Serving.{IsServed}
 use Rattle.board_run.proofs.FiberGoesOn.{current}
 use Rattle.board_run.proofs.Acting.{Leaves}
 

@@ -30,10 +30,8 @@ use Rattle.fiber_runtime.specs.Moves.{Spawned}
 use Rattle.board_run.specs.declared.engine.Engine.{Engine}
 use Rattle.board_outside.specs.declared.output.Output.TheVariants.{Nothing}
 use Rattle.board_run.specs.declared.engine.Served.TheVariants.{Goes}
-use Rattle.board_run.specs.Represents.{Represents, behind}
-use Rattle.board_run.specs.Serving.{turned, StopsAt}
-use Rattle.board_run.specs.Served.{IsServed}
-use Rattle.board_run.specs.View.{state_of}
+use Rattle.board_run.specs.Represents.{Represents, behind, state_of}
+use Rattle.board_run.specs.Serving.{turned, StopsAt, IsServed}
 use Rattle.board_run.proofs.FiberGoesOn.{current, IsOnward}
 use Rattle.board_run.proofs.Joins.{spawns, listens, length_hearings}
 use Rattle.board_run.proofs.Acting.{Leaves, shared_is, goes_leaves, takes_leaves}

@@ -5,15 +5,13 @@ use Rattle.board_ports.specs.Account.{Account}
 use Rattle.board_ports.specs.Plugged.{Plugged}
 use Rattle.board_ports.specs.History.{FollowsMoves}
 use Rattle.board_run.specs.declared.engine.Engine.{Engine}
-use Rattle.board_run.specs.Represents.{BoardState, IsShown}
+use Rattle.board_run.specs.Represents.{BoardState, IsShown, state_of}
 use Rattle.board_run.specs.Run.{Comes}
 use Rattle.board_outside.specs.Ports.{port_moves}
-use Rattle.board_run.specs.Ports.{Idles}
-use Rattle.board_run.specs.View.{state_of}
-use Rattle.board_outside.proofs.Laws.{port_moves-append}
+use Rattle.board_run.specs.Outside.{Idles}
+use Rattle.board_outside.proofs.Laws.{port_moves-append, seen_of-append}
 use Rattle.board_run.proofs.ClockMoves.{still_idles}
 use Rattle.board_run.proofs.Course.{comes_then, comes_shown, stutters}
-use Rattle.board_outside.proofs.Laws.{seen_of-append}
 
 module _ {B : Type 0} (account : B → Account) where
   then_idles : (a b c : BoardState) (p q r : Plugged B) → Idles account a b p q → Idles account b c q r → Idles account a c p r

@@ -23,12 +23,10 @@ use Rattle.board_run.specs.declared.end.Stop.TheVariants.{Fault as StopFault}
 use Rattle.board_run.specs.declared.engine.Engine.{Engine}
 use Rattle.board_outside.specs.declared.output.Output.{Output}
 use Rattle.board_run.specs.declared.engine.Served.TheVariants.{Goes, Stops}
-use Rattle.board_run.specs.Represents.{BoardState, Represents, IsShown}
+use Rattle.board_run.specs.Represents.{BoardState, Represents, IsShown, state_of, end_of}
 use Rattle.board_run.specs.Run.{Comes}
-use Rattle.board_run.specs.Serving.{Acts, StopsAt}
+use Rattle.board_run.specs.Serving.{Acts, StopsAt, IsServed}
 use Rattle.board_outside.specs.Outputs.{moves_of}
-use Rattle.board_run.specs.Served.{IsServed}
-use Rattle.board_run.specs.View.{state_of, end_of}
 use Rattle.board_run.proofs.Instructs.{moved_to, moved_shows, went, faulted, served, served_stops, served_inside}
 
 went_as : (x : Stepped Ram) (turn : Turn) (old new : Machine) → IsStep x turn old new → turn ≡ Went → x ≡ On new.registers new.memory

@@ -32,15 +32,12 @@ use Rattle.board_world.specs.Transcript.{line}
 use Rattle.board_run.specs.declared.engine.Engine.{Engine}
 use Rattle.board_run.specs.declared.board.Board.{Board}
 use Rattle.board_run.specs.Shown.{of_key}
-use Rattle.board_run.specs.Represents.{BoardState, Represents}
+use Rattle.board_run.specs.Represents.{BoardState, Represents, IsEmpty, entries_left, state_of, end_of}
 use Rattle.board_run.specs.Run.{Reaches, Comes}
-use Rattle.board_run.specs.Idling.{IsEmpty}
 use Rattle.board_run.specs.Outside.{OverSink}
-use Rattle.board_run.specs.Advancing.{IsWhole, led_lines, Fails}
-use Rattle.board_run.specs.Proceeding.{first_sent, IsBusy, HasProceeded, IsStayed, of_moment}
-use Rattle.board_run.specs.Going.{entries_left, next_moment, IsDueAt, IsResting, CameTo, Shows, LeadsTo, Sees}
+use Rattle.board_run.specs.Advancing.{IsWhole, led_lines, Fails, first_sent, IsBusy, HasProceeded, IsStayed, of_moment}
+use Rattle.board_run.specs.Going.{next_moment, IsDueAt, IsResting, CameTo, Shows, LeadsTo, Sees}
 use Rattle.board_run.specs.Gone.{HasGone, IsIdle, IsPassed, IsCutShort}
-use Rattle.board_run.specs.View.{state_of, end_of}
 use Rattle.board_run.proofs.Executing.{ports_then}
 use Rattle.board_run.proofs.Further.{Makes, MakesTo, through_then, through_none}
 use Rattle.board_run.proofs.Raises.{nobody_ready}

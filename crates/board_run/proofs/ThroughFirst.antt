@@ -24,17 +24,13 @@ use Rattle.board_run.specs.declared.end.Stop.{Stop}
 use Rattle.board_run.specs.declared.engine.Engine.{Engine}
 use Rattle.board_run.specs.declared.board.Board.{Board}
 use Rattle.board_run.specs.Shown.{running_of}
-use Rattle.board_run.specs.Represents.{BoardState, Represents, IsShown, behind}
+use Rattle.board_run.specs.Represents.{BoardState, Represents, IsShown, behind, IsEmpty, entries_left, state_of, end_of}
 use Rattle.board_run.specs.Run.{Comes}
-use Rattle.board_run.specs.Idling.{IsEmpty}
-use Rattle.board_run.specs.Outside.{OverSink}
-use Rattle.board_run.specs.Advancing.{IsWhole, led_lines, Fails}
-use Rattle.board_run.specs.Ports.{PortsMeet}
-use Rattle.board_run.specs.Proceeding.{first_sent, IsBusy, HasProceeded, IsStayed, of_moment}
-use Rattle.board_run.specs.Going.{entries_left, IsDueAt, IsResting, Shows, LeadsTo, Sees}
+use Rattle.board_run.specs.Outside.{OverSink, PortsMeet}
+use Rattle.board_run.specs.Advancing.{IsWhole, led_lines, Fails, first_sent, IsBusy, HasProceeded, IsStayed, of_moment}
+use Rattle.board_run.specs.Going.{IsDueAt, IsResting, Shows, LeadsTo, Sees}
 use Rattle.board_run.specs.Gone.{MayGo, HasGone, IsIdle, GoesOnOrIdle, IsPassed, IsCutShort}
 use Rattle.board_run.specs.Ran.{IsMounted}
-use Rattle.board_run.specs.View.{state_of, end_of}
 use Rattle.board_run.proofs.Executing.{ports_then, into_then, led_lines-append}
 use Rattle.board_run.proofs.FiberGoesOn.{first_ready}
 use Rattle.board_run.proofs.Stepping.{some_turning}

@@ -9,6 +9,7 @@ use Rattle.message_bus.specs.Agreement.{hearings}
 use Rattle.fiber_pool.specs.Kept.{Kept}
 use Rattle.fiber_queues.specs.Lists.{ListsOf}
 use Rattle.fiber_queues.specs.Calls.{keyed}
+use Rattle.std.specs.List.{AllByRecursion}
 use Rattle.fiber_runtime.specs.declared.turning.Turning.{Turning}
 use Rattle.fiber_runtime.specs.declared.turning.Raiser.{Raiser}
 use Rattle.bank_model.specs.Standing.{words_in, fiber_on}
@@ -21,7 +22,7 @@ use Rattle.board_run.specs.Places.{PendingDispatch, ArePlaces, IsSpent}
 use Rattle.message_bus.specs.Numbers.{IsRising}
 use Rattle.board_run.specs.Shown.{acting, of_key, begun_as, standing}
 use Rattle.fork_on_block.specs.Handlers.{base_for}
-use Rattle.board_run.specs.Represents.{BoardState, RaisersRecorded, Represents}
+use Rattle.board_run.specs.Represents.{BoardState, IsRecorded, Represents}
 use Rattle.board_run.proofs.Standing.{key_is, rising_from}
 
 -- lists with a first item
@@ -96,8 +97,8 @@ reinstates image b w r rs p ps h e f g u =
     record {
       sound = sound_reinstated r rs b.runtime h.sound e f;
       stands = (inside_fits (reinstated r rs b.runtime).machine r.turning nested.1 h.stack, nested.2);
-      runner = (subst RaisersRecorded f h.nested).0;
-      nested = (subst RaisersRecorded f h.nested).1;
+      runner = (subst (AllByRecursion (λ (r : Raiser). IsRecorded r.turning)) f h.nested).0;
+      nested = (subst (AllByRecursion (λ (r : Raiser). IsRecorded r.turning)) f h.nested).1;
       stack = h.stack;
       places = places.1;
       flash = h.flash;

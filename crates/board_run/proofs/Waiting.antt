@@ -2,9 +2,8 @@
 use Rattle.std.proofs.Common.{◌≡◌, ℕ, List, [], None, refl, sym, ap, ◌∙◌}
 use Rattle.message_bus.specs.BusState.{BusState}
 use Rattle.board_run.specs.declared.engine.Engine.{Engine}
-use Rattle.board_run.specs.Represents.{IsShown}
+use Rattle.board_run.specs.Represents.{IsShown, state_of}
 use Rattle.board_run.specs.Run.{Comes}
-use Rattle.board_run.specs.View.{state_of}
 use Rattle.board_run.proofs.Course.{comes_then, comes_shown, stutters}
 
 pub record Staying (old new : Engine) : Type 0 where

@@ -10,7 +10,8 @@ use Rattle.board_ports.specs.Account.{Account}
 use Rattle.board_ports.specs.Plugged.{Plugged}
 use Rattle.board_run.specs.declared.engine.Engine.{Engine}
 use Rattle.board_outside.specs.Moves.{Move, Unplugged, seen_of, unplugged_of}
-use Rattle.board_run.specs.Ports.{PortsMeet}
+use Rattle.board_run.specs.Represents.{entries_left}
+use Rattle.board_run.specs.Outside.{PortsMeet}
 
 -- the moves of an act
 abbrev pub unplugs_of : Act → List Move
@@ -39,7 +40,7 @@ pub record Arrived {B : Type 0} (account : B → Account) (old new : Engine) (pl
   pub moves : List Move
   pub silent : seen_of moves ≡ []
   pub board : (b : Board) → HasButtons old.clock old.buttons old.bus b
-      → arrive_all old.clock (world_entries (drop old.next old.script.entries)) b
+      → arrive_all old.clock (entries_left old) b
       ≡ record (acted_on new.bus new.buttons moves b) { script = world_entries (drop new.next old.script.entries) }
   pub listeners : new.bus.listeners ≡ old.bus.listeners
   pub ports : PortsMeet account moves plugged plugged'

@@ -1,10 +1,10 @@
 -- A board that goes through a moment.
-use Rattle.std.specs.Prelude.{◌≡◌, ℕ, ◌<◌, List, [], ◌∷◌, ◌++◌, Option, None, drop}
+use Rattle.std.specs.Prelude.{◌≡◌, ℕ, ◌<◌, List, [], ◌∷◌, ◌++◌, Option, None}
 use Rattle.board_world.specs.declared.events.Event.{Event}
 use Rattle.board_world.specs.declared.clock.Idle.TheVariants.{Jump}
 use Rattle.board_world.specs.Observations.{Observation}
 use Rattle.board_world.specs.Rules.{earlier, clock_move}
-use Rattle.board_world.specs.Board.{Entry, next_entry}
+use Rattle.board_world.specs.Board.{next_entry}
 use Rattle.board_world.specs.Waiting.{least}
 use Rattle.board_world.specs.Activities.{World}
 use Rattle.board_world.specs.World.{jump}
@@ -13,26 +13,20 @@ use Rattle.bank_model.specs.BoardMachine.{fibers}
 use Rattle.class_world.specs.Hearing.{with_heard, raised_at}
 use Rattle.class_world.specs.Keeping.{with_kept, moment_run}
 use Rattle.message_bus.specs.BusState.{queued}
-use Rattle.event_script.specs.World.{world_entries}
 use Rattle.board_ports.specs.Account.{Account}
 use Rattle.board_ports.specs.Plugged.{Plugged}
 use Rattle.board_outside.specs.Moves.{Move, HasMet, Meets, seen_of}
 use Rattle.board_run.specs.declared.engine.Engine.{Engine}
-use Rattle.board_run.specs.Represents.{BoardState, Represents}
-use Rattle.board_run.specs.Idling.{IsEmpty}
-use Rattle.board_run.specs.Ports.{PortsMeet}
-use Rattle.board_run.specs.Proceeding.{IsBusy}
-use Rattle.board_run.specs.View.{state_of}
+use Rattle.board_run.specs.Represents.{BoardState, Represents, IsEmpty, state_of, entries_left}
+use Rattle.board_run.specs.Outside.{PortsMeet}
+use Rattle.board_run.specs.Advancing.{IsBusy}
 
 -- all join the queue
 abbrev pub queued_all : List Event → List Event → List Event
 queued_all [] q = q
 queued_all (e ∷ es) q = queued_all es (queued e q)
 
--- the entries of the script that are left, and when the next sleeper wakes or the next of them comes
-abbrev pub entries_left : Engine → List Entry
-entries_left e = world_entries (drop e.next e.script.entries)
-
+-- when the next sleeper wakes or the next entry comes
 abbrev pub next_moment : Engine → Option ℕ
 next_moment e = earlier (least e.runtime.lists.sleepers) (next_entry (entries_left e))
 

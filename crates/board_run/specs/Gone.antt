@@ -14,18 +14,16 @@ use Rattle.board_outside.specs.Moves.{Move, seen_of}
 use Rattle.board_outside.specs.Cuts.{TookInto}
 use Rattle.board_run.specs.declared.engine.Engine.{Engine}
 use Rattle.board_run.specs.declared.board.Board.{Board}
-use Rattle.board_run.specs.declared.end.End.TheVariants.{Quiet, Script, Panic, Budget, Fault, SinkFault}
+use Rattle.board_run.specs.declared.end.End.TheVariants.{Panic, Budget, Fault, SinkFault}
 use Rattle.board_run.specs.declared.end.Stop.{Stop}
 use Rattle.board_run.specs.declared.end.Stop.TheVariants.{Panic as StopPanic, Fault as StopFault}
 use Rattle.board_run.specs.declared.moments.Gone.{Gone}
 use Rattle.board_run.specs.declared.moments.Gone.TheVariants.{Idle, Ended}
-use Rattle.board_run.specs.Outside.{OverSink}
-use Rattle.board_run.specs.Advancing.{IsWhole, led_lines}
-use Rattle.board_run.specs.Ports.{PortsMeet}
-use Rattle.board_run.specs.Proceeding.{first_sent}
+use Rattle.board_run.specs.Outside.{OverSink, PortsMeet}
+use Rattle.board_run.specs.Advancing.{IsWhole, led_lines, first_sent}
 use Rattle.board_run.specs.Going.{next_moment, IsDueAt, IsResting, Shows, Goes, Sees}
 use Rattle.board_run.specs.Ran.{IsMounted}
-use Rattle.board_run.specs.View.{state_of, end_of}
+use Rattle.board_run.specs.Represents.{state_of, end_of}
 use Rattle.board_ports.specs.Account.{Account}
 
 -- Which moments a board may go through: on a board as it was mounted moment 0, with an instruction at least; and else the next moment at
@@ -114,5 +112,4 @@ Went account lead moment budget old new (Ended (Fault fault address)) =
 Went account lead moment budget old new (Ended SinkFault) =
     (IsCutShort account lead moment budget old new ⊎ IsCutLast account lead moment budget old new)
     × Rose old.faults new.faults
-Went account lead moment budget old new (Ended Quiet) = ⊥
-Went account lead moment budget old new (Ended Script) = ⊥
+Went account lead moment budget old new _ = ⊥

@@ -3,17 +3,12 @@ pub mod Shown
 pub mod Represents
 pub mod Run
 pub mod Serving
-pub mod Idling
-pub mod View
-pub mod Served
 pub mod Blocking
-pub mod Ports
 pub mod Outside
 pub mod Arriving
 pub mod Advancing
 pub mod Ran
 pub mod Others
 pub mod Parting
-pub mod Proceeding
 pub mod Going
 pub mod Gone

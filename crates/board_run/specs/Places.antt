@@ -11,11 +11,9 @@ pub record PendingDispatch : Type 0 where
 
 -- One place for each raiser, the innermost first, and one behind them; so many listeners stand.
 abbrev pub ArePlaces : ℕ → List Raiser → List PendingDispatch → Type 0
-ArePlaces n [] [] = ⊥
 ArePlaces n [] (p ∷ []) = IsRising 0 p.left n
-ArePlaces n [] (p ∷ (q ∷ ps)) = ⊥
-ArePlaces n (r ∷ rs) [] = ⊥
 ArePlaces n (r ∷ rs) (p ∷ ps) = IsRising 0 p.left n × ArePlaces n rs ps
+ArePlaces n _ _ = ⊥
 
 -- the places as a run begins: one, at which no handler is left
 abbrev pub at_first : List PendingDispatch

@@ -21,10 +21,9 @@ use Rattle.board_run.specs.declared.end.End.{End}
 use Rattle.board_run.specs.declared.end.End.TheVariants.{Quiet, Script, Panic, Budget, Fault, SinkFault}
 use Rattle.board_run.specs.declared.end.Stop.{Stop}
 use Rattle.board_run.specs.declared.end.Stop.TheVariants.{Quiet as StopQuiet, Script as StopScript, Panic as StopPanic, Fault as StopFault}
-use Rattle.board_run.specs.Represents.{Represents}
+use Rattle.board_run.specs.Represents.{Represents, state_of, end_of}
 use Rattle.board_run.specs.Outside.{Outside, OverSink, around}
 use Rattle.board_run.specs.Advancing.{IsWhole}
-use Rattle.board_run.specs.View.{state_of, end_of}
 use Rattle.board_ports.specs.Account.{Account}
 
 -- the bank machine's world after so many instructions of an image, on a script, with these free words

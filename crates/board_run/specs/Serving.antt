@@ -1,5 +1,5 @@
 -- What the running fiber's turn makes of a board.
-use Rattle.std.specs.Prelude.{◌≡◌, ℕ, Bool, List, Some}
+use Rattle.std.specs.Prelude.{◌≡◌, ℕ, Bool, List, Some, ◌+◌, ◌≤◌}
 use Rattle.board_world.specs.Observations.{End}
 use Rattle.board_world.specs.Kinds.{Turn}
 use Rattle.board_world.specs.Activities.{World}
@@ -9,8 +9,12 @@ use Rattle.bank_model.specs.Standing.{fiber_on}
 use Rattle.bank_model.specs.BoardMachine.{fibers}
 use Rattle.fiber_runtime.specs.declared.turning.Turning.{Turning}
 use Rattle.board_run.specs.Shown.{acting}
-use Rattle.board_run.specs.Represents.{BoardState, Represents, behind}
+use Rattle.board_run.specs.Represents.{BoardState, Represents, behind, state_of, end_of}
 use Rattle.board_outside.specs.Moves.{Move, Meets}
+use Rattle.board_outside.specs.Outputs.{moves_of}
+use Rattle.board_run.specs.declared.engine.Engine.{Engine}
+use Rattle.board_run.specs.declared.engine.Served.{Served}
+use Rattle.board_run.specs.declared.engine.Served.TheVariants.{Goes, Stops}
 
 -- The world behind a turn of the running fiber, t, which the world has as its first activity, marked so.
 abbrev pub turned : List ℕ → (Fiber → Shared → Turn Fiber Shared) → BoardState → Turning → Bool → World Fiber Shared
@@ -33,3 +37,25 @@ abbrev pub StopsAt : List ℕ → (Fiber → Shared → Turn Fiber Shared) → E
 StopsAt image turn end b =
     (t : Turning) → b.runtime.running ≡ Some t → (w : World Fiber Shared) (h : Represents image b w)
     → turned image turn b t h.mark w ≡ stops end w
+
+-- The board does the turn of the running fiber, or the turn ends the run so and the board has done nothing.
+abbrev pub IsServed : (List ℕ → Fiber → Shared → Turn Fiber Shared) → Served → Engine → Engine → Type 0
+IsServed turn (Goes output) old new =
+    (image : List ℕ)
+    → Acts image (turn image) (moves_of old.runtime.machine.memory.flash old.clock output) (state_of old) (state_of new)
+IsServed turn (Stops stop) old new =
+    (new ≡ old) × ((image : List ℕ) → StopsAt image (turn image) (end_of stop) (state_of old))
+
+-- No instruction changes the clock or the script, and what is counted grows by little.
+pub record Steps (old new : Engine) : Type 0 where
+  pub clock : new.clock ≡ old.clock
+  pub script : new.script ≡ old.script
+  pub next : new.next ≡ old.next
+  pub spawned : new.counts.spawned ≤ old.counts.spawned + 1
+  pub blocked : new.counts.blocked ≤ old.counts.blocked + 1
+  pub words : new.counts.words ≤ old.counts.words + 1024
+
+-- A part of an instruction doesn't end the run either.
+pub record Keeps (old new : Engine) : Type 0 where
+  pub steps : Steps old new
+  pub end : new.end ≡ old.end

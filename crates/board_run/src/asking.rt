@@ -1,8 +1,8 @@
 // Services by which a fiber asks the board for something, or tells it something.
-ghost use Rattle.std.specs.Prelude.{◌≡◌, ◌<◌, ℕ, ◌^◌, IsSome};
+ghost use Rattle.std.specs.Prelude.{◌≡◌, ◌<◌, ℕ, ◌^◌, IsSome, if◌then◌else◌, ◌==◌};
 ghost use Rattle.board_services.specs.declared.numbers.TheConstants.{RAISE, TIME, EVENT_VALUE, BUTTON, PLOT, SHOW, WRITE_NUMBER, WRITE_PIN, SEND};
 ghost use Rattle.bank_model.specs.AllServices.{service};
-ghost use Rattle.board_run.specs.Served.{IsServed, Keeps};
+ghost use Rattle.board_run.specs.Serving.{IsServed, Keeps};
 
 use crate::arguments::{answer, asked_event, number, word};
 use crate::end::Stop;
@@ -106,7 +106,6 @@ impl Engine {
     }
 }
 
-ghost use Rattle.std.specs.Prelude.{if◌then◌else◌, ◌==◌};
 ghost use Rattle.board_outside.specs.declared.output.Output.TheVariants.{Nothing, Frame};
 
 impl Engine {

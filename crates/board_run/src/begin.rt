@@ -6,11 +6,9 @@ ghost use Rattle.message_bus.specs.Agreement.{hearings};
 ghost use Rattle.fiber_runtime.specs.Moves.{started};
 ghost use Rattle.fork_on_block.specs.Handlers.{base_for};
 ghost use Rattle.board_run.specs.Shown.{handler_turning};
-ghost use Rattle.board_run.specs.Represents.{IsShown};
+ghost use Rattle.board_run.specs.Represents.{IsShown, IsEmpty, state_of};
 ghost use Rattle.board_run.specs.Run.{Comes};
 ghost use Rattle.board_run.specs.Blocking.{IsCopiedIn};
-ghost use Rattle.board_run.specs.Idling.{IsEmpty};
-ghost use Rattle.board_run.specs.View.{state_of};
 
 use crate::engine::Engine;
 use board_world::Event;

@@ -12,8 +12,7 @@ ghost use Rattle.board_outside.specs.Moves.{seen_of};
 ghost use Rattle.board_outside.specs.Ports.{port_moves};
 ghost use Rattle.board_outside.specs.Outputs.{moves_of, IsSeen};
 ghost use Rattle.board_run.specs.Advancing.{Advances, HasExecuted, Fails, IsWhole, IsSettled, of_run};
-ghost use Rattle.board_run.specs.Ports.{PortsMeet};
-ghost use Rattle.board_run.specs.Outside.{outside_of, over_sink};
+ghost use Rattle.board_run.specs.Outside.{PortsMeet, outside_of, over_sink};
 ghost use Rattle.board_run.specs.Ran.{world_after, IsMounted, Finishes, Ran};
 ghost use Rattle.event_script.specs.declared.script.Script.{Script as EventScript};
 

@@ -3,7 +3,7 @@ ghost use Rattle.std.specs.Prelude.{◌≡◌, ℕ, List};
 ghost use Rattle.std.specs.Option.{option_map};
 ghost use Rattle.tool_io.specs.Putting.{PutsTo};
 ghost use Rattle.board_world.specs.Transcript.{closing_line};
-ghost use Rattle.board_run.specs.View.{end_of};
+ghost use Rattle.board_run.specs.Represents.{end_of};
 ghost use Rattle.board_run.specs.Ran.{told};
 
 use crate::end::{End, Stop};

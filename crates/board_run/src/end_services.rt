@@ -7,9 +7,8 @@ ghost use Rattle.fiber_runtime.specs.Moves.{Ended, restarted};
 ghost use Rattle.board_services.specs.declared.numbers.TheConstants.{END, RAISE_NOW};
 ghost use Rattle.bank_model.specs.AllServices.{service};
 ghost use Rattle.bank_model.specs.Standing.{IsInside};
-ghost use Rattle.board_run.specs.Represents.{IsShown};
-ghost use Rattle.board_run.specs.Served.{IsServed, Keeps};
-ghost use Rattle.board_run.specs.View.{state_of};
+ghost use Rattle.board_run.specs.Represents.{IsShown, state_of};
+ghost use Rattle.board_run.specs.Serving.{IsServed, Keeps};
 
 use crate::arguments::asked_event;
 use crate::end::Stop;

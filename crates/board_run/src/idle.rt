@@ -9,11 +9,9 @@ ghost use Rattle.board_run.specs.Going.{CameTo, queued_all};
 ghost use Rattle.event_script.specs.World.{world_act, world_entries};
 ghost use Rattle.event_script.specs.Sound.{IsSound};
 ghost use Rattle.board_run.specs.Arriving.{Applied, Arrived};
-ghost use Rattle.board_run.specs.Idling.{IsEmpty, moves_left};
-ghost use Rattle.board_run.specs.Ports.{Idles};
-ghost use Rattle.board_run.specs.Represents.{IsShown};
+ghost use Rattle.board_run.specs.Represents.{IsEmpty, moves_left, IsShown, state_of};
+ghost use Rattle.board_run.specs.Outside.{Idles};
 ghost use Rattle.board_run.specs.Run.{Comes};
-ghost use Rattle.board_run.specs.View.{state_of};
 
 use crate::end::Stop;
 use crate::engine::Engine;

@@ -1,11 +1,10 @@
 // One instruction of the running fiber.
 ghost use Rattle.std.specs.Prelude.{◌≡◌, ◌+◌, ◌^◌, ◌<◌, ◌≤◌, ℕ, List, None, All, IsSome};
 ghost use Rattle.board_world.specs.Limits.{end_limit};
-ghost use Rattle.board_run.specs.Represents.{IsShown};
+ghost use Rattle.board_run.specs.Represents.{IsShown, state_of};
 ghost use Rattle.board_run.specs.Run.{Comes};
 ghost use Rattle.board_outside.specs.Outputs.{moves_of};
-ghost use Rattle.board_run.specs.Served.{Steps};
-ghost use Rattle.board_run.specs.View.{state_of};
+ghost use Rattle.board_run.specs.Serving.{Steps};
 
 use crate::end::Stop;
 use crate::engine::{Engine, Served};

@@ -5,7 +5,7 @@ ghost use Rattle.board_services.specs.declared.numbers.TheConstants.{NUMBER_GLYP
 ghost use Rattle.bank_model.specs.AllServices.{service};
 ghost use Rattle.bank_model.specs.Texts.{glyph_at};
 ghost use Rattle.board_world.specs.Transcript.{decimal_text};
-ghost use Rattle.board_run.specs.Served.{IsServed, Keeps};
+ghost use Rattle.board_run.specs.Serving.{IsServed, Keeps};
 
 use crate::arguments::{answer, number, word};
 use crate::end::Stop;

@@ -5,9 +5,8 @@ ghost use Rattle.bank_model.specs.AllServices.{service as service_of, word_argum
 ghost use Rattle.bank_model.specs.Standing.{IsInside, fiber_on};
 ghost use Rattle.board_run.specs.declared.end.Stop.TheVariants.{Panic};
 ghost use Rattle.board_run.specs.declared.engine.Served.TheVariants.{Stops};
-ghost use Rattle.board_run.specs.Represents.{IsShown};
-ghost use Rattle.board_run.specs.Served.{IsServed, Keeps};
-ghost use Rattle.board_run.specs.View.{state_of};
+ghost use Rattle.board_run.specs.Represents.{IsShown, state_of};
+ghost use Rattle.board_run.specs.Serving.{IsServed, Keeps};
 
 use crate::arguments::{asked_event, number, word};
 use crate::end::Stop;

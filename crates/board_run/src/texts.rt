@@ -6,7 +6,7 @@ ghost use Rattle.thumb_code.specs.Map.{flash_end, flash_byte, flash_word};
 ghost use Rattle.bank_model.specs.Texts.{is_text, text_at, glyph_at};
 ghost use Rattle.board_services.specs.declared.numbers.TheConstants.{WRITE_TEXT, TEXT_GLYPH};
 ghost use Rattle.bank_model.specs.AllServices.{service};
-ghost use Rattle.board_run.specs.Served.{IsServed, Keeps};
+ghost use Rattle.board_run.specs.Serving.{IsServed, Keeps};
 
 use crate::arguments::{answer, word};
 use crate::end::Stop;

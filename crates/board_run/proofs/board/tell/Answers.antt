@@ -1,7 +1,7 @@
 use Rattle.std.proofs.Common.{OnOk, subst}
 use Rattle.thumb_code.specs.Machine.{State}
 use Rattle.board_outside.specs.Outputs.{moves_of}
-use Rattle.board_run.specs.Ports.{PortsMeet}
+use Rattle.board_run.specs.Outside.{PortsMeet}
 use Rattle.board_run.proofs.board.tell.Goals as goal
 
 pub returns-in_default-clause-sends : goal.returns-in_default-clause-sends

@@ -1,6 +1,6 @@
 use Rattle.std.proofs.Common.{◌≡◌, ◌+◌, subst, arith}
 use Rattle.board_run.specs.Outside.{over_sink}
-use Rattle.board_run.specs.Proceeding.{of_moment, Proceeds}
+use Rattle.board_run.specs.Advancing.{of_moment, Proceeds}
 use Rattle.board_run.proofs.Executing.{on_err, fails_then}
 use Rattle.board_run.proofs.Proceeding.{proceeds_none, proceeds_then, stands_none, stands_then}
 use Rattle.board_run.proofs.board.Board.proceed.Goals as goal

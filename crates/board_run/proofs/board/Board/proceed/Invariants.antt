@@ -1,7 +1,6 @@
 use Rattle.std.proofs.Common.{◌≡◌, ◌+◌, ◌≤◌}
 use Rattle.board_run.specs.Outside.{over_sink}
-use Rattle.board_run.specs.Advancing.{IsWhole}
-use Rattle.board_run.specs.Proceeding.{Proceeds, Stands, IsStayed}
+use Rattle.board_run.specs.Advancing.{IsWhole, Proceeds, Stands, IsStayed}
 use Rattle.board_run.proofs.board.Board.proceed.Given as goal
 
 -- as many instructions as the counter says, and nothing is wrong yet

@@ -3,7 +3,7 @@ use Rattle.board_world.specs.declared.clock.Idle.TheVariants.{Jump, Quiet, Scrip
 use Rattle.board_world.specs.Limits.{end_limit}
 use Rattle.board_run.specs.declared.end.Stop.TheVariants.{Quiet as StopQuiet, Script as StopScript}
 use Rattle.board_run.specs.declared.engine.Engine.{Engine}
-use Rattle.board_run.specs.View.{state_of}
+use Rattle.board_run.specs.Represents.{state_of}
 use Rattle.board_run.proofs.ClockMoves.{acts_of, says_so, ended_idles, comes_quiet, comes_script, fewer_ends, jump_idles, jump_fewer, moment_early}
 use Rattle.board_run.proofs.engine.Engine.clock_move.Goals as goal
 

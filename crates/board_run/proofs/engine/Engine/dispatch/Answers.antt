@@ -1,7 +1,7 @@
 use Rattle.std.proofs.Common.{◌<◌, List, All, ap, subst}
 use Rattle.message_bus.specs.BusState.{BusState}
 use Rattle.message_bus.specs.ListenerState.{ListenerState}
-use Rattle.board_run.specs.View.{state_of}
+use Rattle.board_run.specs.Represents.{state_of}
 use Rattle.board_run.proofs.Few.{may_dispatch}
 use Rattle.board_run.proofs.Dispatching.{dispatch_comes, dispatch_fewer}
 use Rattle.board_run.proofs.engine.Engine.dispatch.Goals as goal

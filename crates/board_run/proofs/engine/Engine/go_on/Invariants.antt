@@ -1,5 +1,4 @@
-use Rattle.board_run.specs.Idling.{moves_left}
-use Rattle.board_run.specs.View.{state_of}
+use Rattle.board_run.specs.Represents.{moves_left, state_of}
 use Rattle.board_run.proofs.Settling.{Settling}
 use Rattle.board_run.proofs.engine.Engine.go_on.Given as goal
 

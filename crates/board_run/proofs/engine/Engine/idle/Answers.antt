@@ -1,4 +1,4 @@
-use Rattle.board_run.specs.View.{state_of}
+use Rattle.board_run.specs.Represents.{state_of}
 use Rattle.board_run.proofs.ClockMoves.{still_idles}
 use Rattle.board_run.proofs.engine.Engine.idle.Goals as goal
 

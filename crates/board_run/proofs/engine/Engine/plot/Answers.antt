@@ -1,7 +1,7 @@
 use Rattle.std.proofs.Common.{subst, sym, ap, ◌∙◌, to_z, of_z, w32, to_z-of_z}
 use Rattle.board_world.specs.Frame.{plotted}
 use Rattle.board_run.specs.declared.engine.Engine.{Engine}
-use Rattle.board_run.specs.Served.{IsServed}
+use Rattle.board_run.specs.Serving.{IsServed}
 use Rattle.bank_model.specs.AllServices.{service}
 use Rattle.board_run.specs.declared.engine.Served.TheVariants.{Goes}
 use Rattle.board_run.proofs.AskServices.{serve_plot}
