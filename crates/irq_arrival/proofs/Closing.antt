@@ -29,13 +29,11 @@ use Rattle.board_run.specs.declared.end.Stop.{Stop}
 use Rattle.board_run.specs.declared.end.Stop.TheVariants.{Quiet as StopQuiet, Script as StopScript, Panic as StopPanic, Fault as StopFault}
 use Rattle.board_run.specs.declared.end.End.{End}
 use Rattle.board_run.specs.declared.engine.Engine.{Engine}
-use Rattle.board_run.specs.Represents.{Represents}
+use Rattle.board_run.specs.Represents.{Represents, state_of, end_of}
 use Rattle.board_run.specs.Run.{Reaches}
 use Rattle.board_run.specs.Advancing.{of_run, Fails}
-use Rattle.board_run.specs.Ports.{PortsMeet}
-use Rattle.board_run.specs.Outside.{Outside, OverSink, around}
+use Rattle.board_run.specs.Outside.{PortsMeet, Outside, OverSink, around}
 use Rattle.board_run.specs.Ran.{IsMounted, IsExecuted, HasRun, IsCut, told, answer_of, Finishes, Ran}
-use Rattle.board_run.specs.View.{state_of, end_of}
 use Rattle.board_run.proofs.Laws.{ports_then, into_then, plain_lines}
 use Rattle.irq_arrival.specs.Along.{world_with, NoneBefore, AllMay, Along}
 use Rattle.irq_arrival.specs.Underway.{Underway}
@@ -132,7 +130,8 @@ module _ {B : Type 0} (account : B → Account) (arrivals left : List Arrival) (
           done = h.moves;
           left = [];
           split = append-nil h.moves;
-          due = tt;
+          text = closing_line (after []).board.clock (after []).board.end;
+          due = refl;
           written = record {
             told = λ had q.
                 let closing : closing_line e.clock (option_map end_of e.end) ≡ closing_line (after []).board.clock (after []).board.end =
@@ -202,7 +201,8 @@ module _ {B : Type 0} (account : B → Account) (arrivals left : List Arrival) (
             done = h.moves ++ g.done;
             left = Seen g.last ∷ (idle.0 ++ more.0);
             split = split h.moves g.done g.last idle.0 more.0;
-            due = tt;
+            text = line g.last;
+            due = refl;
             written = subst (λ l. TookInto first.taken new.taken l (line g.last)) (sym (lines-append (seen_of h.moves) (seen_of g.done)) ∙ ap lines (sym (seen_of-append h.moves g.done)))
                 (into_then account (lines (seen_of h.moves)) (lines (seen_of g.done)) (line g.last) h.written (subst (λ l. TookInto b.taken new.taken l (line g.last)) (plain_lines (seen_of g.done)) g.written));
             devices = devices_after (h.moves ++ g.done) new.board.plugs (ports_then account h.moves g.done first.board.plugs b.board.plugs new.board.plugs h.ports g.ports);

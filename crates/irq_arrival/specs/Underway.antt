@@ -7,10 +7,9 @@ use Rattle.event_script.specs.World.{world_entries}
 use Rattle.event_script.specs.declared.script.Script.{Script as EventScript}
 use Rattle.board_ports.specs.Account.{Account}
 use Rattle.board_outside.specs.Moves.{Move, seen_of}
-use Rattle.board_run.specs.Outside.{OverSink}
+use Rattle.board_run.specs.Outside.{OverSink, PortsMeet}
 use Rattle.board_run.specs.Advancing.{IsWhole, IsSettled}
-use Rattle.board_run.specs.Ports.{PortsMeet}
-use Rattle.board_run.specs.View.{state_of}
+use Rattle.board_run.specs.Represents.{state_of}
 use Rattle.board_run.specs.Ran.{IsMounted}
 use Rattle.irq_arrival.specs.Along.{world_with, NoneBefore, AllMay, Along}
 
