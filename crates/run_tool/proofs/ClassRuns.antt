@@ -20,9 +20,8 @@ use Rattle.event_script.specs.World.{world_entries}
 use Rattle.class_file.specs.declared.class.Names.{Names}
 use Rattle.class_file.specs.declared.class.ClassFile.{ClassFile}
 use Rattle.class_world.specs.Classes as world
-use Rattle.class_world.specs.Lines.{whole_text, cut_text}
 use Rattle.class_world.specs.Implementing.{MemberImplements}
-use Rattle.class_steps.specs.Texts.{HasWholeText, HasCutText, IsTextOf, boards_now}
+use Rattle.class_steps.specs.Texts.{HasWholeText, HasSpentText, IsTextOf, boards_now}
 use Rattle.class_meaning.proofs.Laws.{means_whole, means_cut}
 use Rattle.class_radio.specs.Playing.{Setup, member_of}
 use Rattle.class_radio.specs.Outcome.{setups_of, members_of, class_of_parts, IsDone, HasSpent, IsStopped, RanClass}
@@ -159,31 +158,20 @@ module _ (class : ClassFile) (sources : List BoardSource) (setups : List Setup) 
       (let m = means_whole instructions_of_a_step (map source_member sources) (Below frees) budget text (members-implement sources setups frees made) w in
       record { text = text; has = m.has; is = ap (λ (bs : List Board). says (class_status bs) text) (sym m.same) })
 
-  cut-text : (frees : List (List ℕ)) (text : ByteList) → HasCutText (Below frees) budget text → RunsCut Above budget (says OutOfBudget text)
+  cut-text : (frees : List (List ℕ)) (text : ByteList) → HasSpentText (Below frees) budget text → RunsCut Above budget (says OutOfBudget text)
   cut-text frees text c =
       record { text = text; has = means_cut instructions_of_a_step (map source_member sources) (Below frees) budget text (members-implement sources setups frees made) c; is = refl }
 
   module _ {S : Type 0} (taken : S → Option (List ℕ)) (faults : S → ℕ) (old new : S) (later : faults old ≤ faults new) where
     done : (panics stops : ℕ) → IsDone setups class.lose class.end budget panics stops (taken old) (taken new) → GivesOneOf taken faults old new (RunsClass Above budget) (Gave (status_by panics))
-    done panics stops d =
-        (let text = whole_text class.end (boards_now class.end d.runs) in
-        let w : HasWholeText (Below d.frees) budget text = record { runs = d.runs; whole = d.whole; within = d.within; is = refl } in
-        record {
-          ends = (text, subst (λ n. RunsClass Above budget (says (status_by n) text)) (sym d.panicked) (inl (whole-text d.frees text w)), d.written);
-          later = later;
-          cut = λ e. absurd (cc);
-        })
+    done panics stops d = record {
+      ends = (d.text, subst (λ n. RunsClass Above budget (says (status_by n) d.text)) (sym d.panicked) (inl (whole-text d.frees d.text d.has)), d.written);
+      later = later;
+      cut = λ e. absurd (cc);
+    }
 
     spent : (number : ℕ) → HasSpent setups class.lose class.end budget number (taken old) (taken new) → GivesOneOf taken faults old new (RunsClass Above budget) (Gave OutOfBudget)
-    spent number d =
-        (let text = cut_text number (world.world_of class.end d.here).board (boards_now class.end d.below) (boards_now class.end (d.below ++ d.here ∷ d.above)) in
-        let named : text ≡ cut_text (length d.below) (world.world_of class.end d.here).board (boards_now class.end d.below) (boards_now class.end (d.below ++ d.here ∷ d.above)) =
-        ap (λ n. cut_text n (world.world_of class.end d.here).board (boards_now class.end d.below) (boards_now class.end (d.below ++ d.here ∷ d.above))) (sym d.at) in
-        record {
-          ends = (text, inr (cut-text d.frees text (record { below = d.below; here = d.here; above = d.above; cut = d.cut; steps = d.steps; within = d.within; is = named })), d.written);
-          later = later;
-          cut = λ e. absurd (cc);
-        })
+    spent number d = record { ends = (d.text, inr (cut-text d.frees d.text d.has), d.written); later = later; cut = λ e. absurd (cc) }
 
     stopped : IsStopped setups class.lose class.end budget (taken old) (taken new) → Rose (faults old) (faults new) → GivesOneOf taken faults old new (RunsClass Above budget) Cut
     stopped d rose = by_text d.is

@@ -114,6 +114,7 @@ module _ {S B : Type 0} (devices : OfDevices B) (lead : List ℕ) (taken : S →
     done = x.done;
     left = x.left;
     split = x.split;
+    text = x.text;
     due = x.due;
     written = record { told = λ had e. (let r = x.written.told (had ++ []) (t.told had e) in (r.0, r.1, r.2 ∙ ap Some (ap (λ l. l ++ ((lead ++ lines (seen_of x.done)) ++ r.0)) (append-nil had)))) };
     devices = x.devices;
@@ -172,6 +173,7 @@ module _ {S B : Type 0} (devices : OfDevices B) (taken : S → Option (List ℕ)
     done = x.done;
     left = x.left;
     split = x.split;
+    text = x.text;
     due = x.due;
     written = record {
       told = λ had e. (

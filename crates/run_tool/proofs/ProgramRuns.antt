@@ -12,7 +12,7 @@ use Rattle.board_world.specs.Transcript.{lines, closing_line, stats_line}
 use Rattle.board_world.specs.Board.{Board}
 use Rattle.board_world.specs.Implements.{EndsByNoFault}
 use Rattle.board_outside.specs.Moves.{Move, Seen, Unplugged, HasMet}
-use Rattle.board_outside.specs.Cuts.{text_due}
+use Rattle.board_outside.specs.Cuts.{IsDue}
 use Rattle.hex_image.specs.Laws.{IsImage}
 use Rattle.hex_image.specs.Writing.{hextext}
 use Rattle.sts_syntax.specs.TypedTrees.{TypedProgram}
@@ -35,11 +35,12 @@ use Rattle.run_tool.specs.Run.{RunsProgram}
 use Rattle.run_tool.specs.Statistics.{asked_behind, instructions_line}
 use Rattle.board_ports.specs.Account.{Account}
 
--- a part of the text that is due is one of a longer text
-due-more : (behind more : List ℕ) (left : List Move) (part : List ℕ) → IsPrefix part (text_due behind left) → IsPrefix part (text_due (behind ++ more) left)
-due-more behind more [] part h = (h.0 ++ more, sym (append_assoc part h.0 more) ∙ ap (λ x. x ++ more) h.1)
-due-more behind more (Seen o ∷ rest) part h = h
-due-more behind more (Unplugged port ∷ rest) part h = h
+-- where more stands behind, the text that is due may be longer
+due-more : (behind more : List ℕ) (left : List Move) (text : List ℕ) → IsDue behind left text → (longer : List ℕ) × IsDue (behind ++ more) left longer × ((part : List ℕ) → IsPrefix part text → IsPrefix part longer)
+due-more behind more [] text e =
+    (behind ++ more, refl, λ part h. let q : IsPrefix part behind = subst (λ t. IsPrefix part t) e h in (q.0 ++ more, sym (append_assoc part q.0 more) ∙ ap (λ x. x ++ more) q.1))
+due-more behind more (Seen o ∷ rest) text e = (text, e, λ part h. h)
+due-more behind more (Unplugged port ∷ rest) text e = absurd e
 
 -- what is asked for, where both are
 pub behind-both : (asked also : Bool) (s : Stats) (hex : List ℕ) → asked ≡ true → also ≡ true
@@ -125,7 +126,8 @@ module _ (P : TypedProgram) (texts : List ByteList) (image : List ℕ) (is_image
               done = r.moves;
               left = [];
               split = append-nil r.moves;
-              due = tt;
+              text = closing ++ asked;
+              due = refl;
               written = record {
                 told = λ had e. (
                     let q = p.part.told (had ++ (lines b.seen ++ closing)) (r.written.told had e) in (
@@ -158,6 +160,7 @@ module _ (P : TypedProgram) (texts : List ByteList) (image : List ℕ) (is_image
         let b : Board = (world_after image script c.free c.executed).board in
         let closing = closing_line b.clock b.end in
         let asked = asked_behind stats with_image b c.executed image in
+        let more = due-more closing asked c.stopped.left c.stopped.text c.stopped.due in
         subst Concluded (sym f.2) (record {
           ends = (
             answer_on b c.executed c.moves,
@@ -166,8 +169,9 @@ module _ (P : TypedProgram) (texts : List ByteList) (image : List ℕ) (is_image
               done = c.stopped.done;
               left = c.stopped.left;
               split = c.stopped.split;
-              due = c.stopped.due;
-              written = record { told = λ had e. (let q = c.stopped.written.told had e in (q.0, due-more closing asked c.stopped.left q.0 q.1, f.0 ∙ q.2)) };
+              text = more.0;
+              due = more.1;
+              written = record { told = λ had e. (let q = c.stopped.written.told had e in (q.0, more.2 q.0 q.1, f.0 ∙ q.2)) };
               devices = c.stopped.devices;
             }),
           );

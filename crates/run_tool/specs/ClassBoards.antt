@@ -1,7 +1,7 @@
 -- The answers over the boards of a class: their programs and scripts, in their order.
 use Rattle.std.specs.Prelude.{◌≡◌, ◌≢◌, ◌++◌, ℕ, suc, List, [], ◌∷◌, codes, Ok}
 use Rattle.sts_base.specs.declared.tables.Tables.{Tables}
-use Rattle.board_world.specs.Transcript.{count_text}
+use Rattle.class_world.specs.Lines.{board_lead}
 use Rattle.sts_syntax.specs.TypedTrees.{TypedProgram}
 use Rattle.event_script.specs.declared.script.Script.{Script}
 use Rattle.event_script.specs.declared.script.ScriptCode.{ScriptCode}
@@ -23,10 +23,6 @@ pub record BoardSource : Type 0 where
   pub program : TypedProgram
   pub tables : Tables
   pub script : Script
-
--- what stands before a line of a board: its number
-abbrev pub board_lead : ℕ → List ℕ
-board_lead b = count_text b ++ codes " "
 
 -- the answers to the text of board b's program: those to the program as which it is accepted, or its first failure behind the board's number
 abbrev pub OverBoardProgram : (b : ℕ) → (Tables → TypedProgram → Answer → Type 0) → List ℕ → Answer → Type 0

@@ -1,7 +1,7 @@
 use Rattle.std.proofs.Common.{rules}
 use Rattle.event_script.specs.Codes.{number_of}
 use Rattle.tool_io.proofs.Laws.{puts-as}
-use Rattle.run_tool.specs.ClassBoards.{board_lead}
+use Rattle.class_world.specs.Lines.{board_lead}
 use Rattle.run_tool.proofs.ClassAnswers.{board-script-pieces}
 use Rattle.run_tool.proofs.class_boards.put_script_refused.Goals as goal
 

@@ -2,7 +2,7 @@ use Rattle.std.proofs.Common.{subst}
 use Rattle.run_tool.specs.declared.ending.Status.TheVariants.{Refused}
 use Rattle.run_tool.specs.Answers.{Led}
 use Rattle.run_tool.specs.inner.Giving.{GivesOneOf}
-use Rattle.run_tool.specs.ClassBoards.{board_lead}
+use Rattle.class_world.specs.Lines.{board_lead}
 use Rattle.run_tool.specs.Refusals.{AnswersRefusal}
 use Rattle.run_tool.specs.inner.Finishing.{ending_by}
 use Rattle.run_tool.proofs.Endings.{refused-led}

@@ -2,7 +2,8 @@ use Rattle.std.proofs.Common.{subst, inr}
 use Rattle.sts_whole.specs.Accepting as accepting
 use Rattle.run_tool.specs.Answers.{Led}
 use Rattle.run_tool.specs.Refusals.{AnswersRefusal}
-use Rattle.run_tool.specs.ClassBoards.{board_lead, OverBoardProgram}
+use Rattle.run_tool.specs.ClassBoards.{OverBoardProgram}
+use Rattle.class_world.specs.Lines.{board_lead}
 use Rattle.run_tool.specs.inner.Nothing.{none_to_boards}
 use Rattle.run_tool.proofs.Endings.{gives-more}
 use Rattle.run_tool.proofs.class_boards.say_program_refused.Goals as goal

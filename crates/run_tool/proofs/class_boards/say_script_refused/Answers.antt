@@ -2,7 +2,7 @@ use Rattle.std.proofs.Common.{refl, ◌++◌}
 use Rattle.event_script.specs.Codes.{number_of}
 use Rattle.run_tool.specs.declared.ending.Status.TheVariants.{ScriptRefused}
 use Rattle.run_tool.specs.Scripts.{script_refused_line}
-use Rattle.run_tool.specs.ClassBoards.{board_lead}
+use Rattle.class_world.specs.Lines.{board_lead}
 use Rattle.run_tool.proofs.class_boards.say_script_refused.Goals as goal
 
 pub returns-in-Err : goal.returns-in-Err

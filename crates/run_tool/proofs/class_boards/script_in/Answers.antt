@@ -9,7 +9,8 @@ use Rattle.run_tool.specs.Answers.{says}
 use Rattle.run_tool.specs.Scripts.{script_refused_line}
 use Rattle.run_tool.specs.inner.Nothing.{none_to_read}
 use Rattle.run_tool.specs.ClassFiles.{refuses_class}
-use Rattle.run_tool.specs.ClassBoards.{AnswersBoardScript, no_script, other_end, board_lead}
+use Rattle.run_tool.specs.ClassBoards.{AnswersBoardScript, no_script, other_end}
+use Rattle.class_world.specs.Lines.{board_lead}
 use Rattle.run_tool.proofs.Endings.{if-ok, gives-more, refuses-script}
 use Rattle.run_tool.proofs.ClassAnswers.{if-errs, ok-so}
 use Rattle.run_tool.proofs.class_boards.script_in.Goals as goal
