@@ -62,7 +62,7 @@ fn within<'a>(
 
 /// The result of a function by the first value that it returns: nothing where none is.
 fn answered(returned: Option<Option<StaticType>>) -> Option<StaticType>
-    ensures { (tables : _) → (names : _) → (known : _) → result ≡ given.answered tables names known returned }
+    ensures { result ≡ given.answered returned }
 {
     match returned {
         None => Some(flat(Base::Nothing)),

@@ -1,9 +1,9 @@
 -- Each failure of a node is at a place of its tree.
-use Rattle.std.proofs.Common.{◌≡◌, ℕ, Bool, true, false, not, ◌&&◌, Some, None, List, [], ◌∷◌, subst}
-use Rattle.std.specs.Prelude.{ℤ, Option, is_some, if◌then◌else◌}
+use Rattle.std.proofs.Common.{◌≡◌, ℕ, Bool, true, false, not, Some, None, List, [], ◌∷◌, subst}
+use Rattle.std.specs.Prelude.{Option, if◌then◌else◌}
 use Rattle.sts_base.specs.declared.tables.Tables.{Tables}
 use Rattle.sts_base.specs.declared.refused.Code.{Code}
-use Rattle.sts_base.specs.declared.refused.Code.TheVariants.{UnknownName, TwiceNamed, NeedsType, BadHandler, Mismatch}
+use Rattle.sts_base.specs.declared.refused.Code.TheVariants.{UnknownName, TwiceNamed, NeedsType, Mismatch}
 use Rattle.sts_syntax.specs.Annotations.{Annotation, Number, Boolean, Nothing, Named, ListOf}
 use Rattle.sts_syntax.specs.Annotations as annotations
 use Rattle.sts_syntax.specs.BoardTable.{BoardParameter, row_of}
@@ -11,21 +11,17 @@ use Rattle.sts_syntax.specs.declared.board_calls.BoardCall.{BoardCall}
 use Rattle.sts_syntax.specs.Trees.{Parameter, Tree, Num, Text, Truth, Null, This, Name, Unary, Binary, Both, Either, Choice, Set, Bump, Member, Item, Call, SuperCall, Make, Items, Handler, Trees, none, more, OptionalTree, absent, present, Statement, Block, Let, IfOnly, IfElse, While, DoWhile, For, ForOf, Return, Break, Continue, Plain, Empty, Statements, done, also, OptionalStatement, omitted, written, Declaration, Declare, Declarations, ended, next, Routine, Does}
 use Rattle.sts_scope.specs.declared.kinds.StaticType.{StaticType}
 use Rattle.sts_scope.specs.declared.known.Known.{Known}
-use Rattle.sts_scope.specs.declared.known.Found.{Found}
-use Rattle.sts_scope.specs.declared.known.Found.TheVariants as found
-use Rattle.sts_scope.specs.declared.known.Part.{Part}
 use Rattle.sts_scope.specs.Failures.{Failure, ◌then◌, failure_at, unless, own}
 use Rattle.sts_scope.specs.Entries.{Naming, kind_of}
 use Rattle.sts_scope.specs.Globals.{is_dollar}
 use Rattle.sts_scope.specs.Headings.{type_name_failure, written_failure}
 use Rattle.sts_scope.specs.Places.{NameScope, inner, is_twice}
-use Rattle.sts_scope.specs.Rules.{this_kind, name_kind, part_of, part_kind, call_kind, kind_at, is_nothing, is_boolean, serves}
-use Rattle.sts_scope.specs.Codes.{why_name, why_this, why_part, why_call, why_make, why_super}
+use Rattle.sts_scope.specs.Rules.{is_nothing, is_boolean}
 use Rattle.type_derive.specs.declared.roles.Role.{Role}
-use Rattle.type_derive.specs.declared.roles.Role.TheVariants.{Free, Given, Called, Served}
-use Rattle.type_derive.specs.Typing.{◌>>=◌, Callee, finds, constant_of, board_callee, callee_of, part_callee, super_method, made, type_of, types_of, are_given, role_of, behind}
+use Rattle.type_derive.specs.declared.roles.Role.TheVariants.{Free, Given, Called}
+use Rattle.type_derive.specs.Typing.{fits, board_callee, type_of, role_of, behind}
 use Rattle.type_derive.specs.Returns.{bound, after, after_first, looped}
-use Rattle.type_derive.specs.Nodes.{is_called, is_served, serves_itself, kind_role, fits, parameter_types_failure, handler_place, own_name, own_part, own_member, own_called, own_super, own_make, lacks_handler, own_board, own_local, own_bound, waives, is_list, failure, failures, handler_failure, initial_failure, optional_failure, test_failure, declaration_failure, declarations_failure, statement_failure, first_failure, statements_failure}
+use Rattle.type_derive.specs.Nodes.{kind_role, suits, unsuited, cause_of, is_of_board, parameter_types_failure, handler_place, own_local, own_bound, waives, is_list, failure, failures, handler_failure, initial_failure, optional_failure, test_failure, declaration_failure, declarations_failure, statement_failure, first_failure, statements_failure}
 use Rattle.sts_whole.proofs.NodePlaces.{AnnotationAt, WrittenAt, ParametersAt, TreeAt, TreesAt, OptionAt, RoutineAt, DeclarationAt, DeclarationsAt, StatementAt, FirstAt, StatementsAt}
 
 -- A failure, if there is one, is at such a place.
@@ -83,47 +79,8 @@ module _ (P : ℕ → Type 0) (tables : Tables) (names : Naming) (k : Known) whe
   ty p r e = type_of tables k p r e
 
   -- a node's own failure
-  name_in : (r : Role) (p : NameScope) (f : Found) (at : ℕ) → P at → In (own_name tables names k r p f at)
-  name_in Free p f at h = own_in (name_kind k p f) (why_name f) at h
-  name_in Given p f at h = own_in (name_kind k p f) (why_name f) at h
-  name_in Called p (found.Function d) at h = none_in
-  name_in Served p (found.Function d) at h =
-      then_in (own (kind_at k d) NeedsType at) (unless (serves k (found.Function d)) BadHandler at) (own_in (kind_at k d) NeedsType at h) (unless_in (serves k (found.Function d)) BadHandler at h)
-  name_in Called p (found.Local i) at h = own_in (name_kind k p (found.Local i)) (why_name (found.Local i)) at h
-  name_in Called p found.Captured at h = own_in (name_kind k p found.Captured) (why_name found.Captured) at h
-  name_in Called p (found.Global d) at h = own_in (name_kind k p (found.Global d)) (why_name (found.Global d)) at h
-  name_in Called p (found.Class c) at h = own_in (name_kind k p (found.Class c)) (why_name (found.Class c)) at h
-  name_in Called p found.Unknown at h = own_in (name_kind k p found.Unknown) (why_name found.Unknown) at h
-  name_in Served p (found.Local i) at h = own_in (name_kind k p (found.Local i)) (why_name (found.Local i)) at h
-  name_in Served p found.Captured at h = own_in (name_kind k p found.Captured) (why_name found.Captured) at h
-  name_in Served p (found.Global d) at h = own_in (name_kind k p (found.Global d)) (why_name (found.Global d)) at h
-  name_in Served p (found.Class c) at h = own_in (name_kind k p (found.Class c)) (why_name (found.Class c)) at h
-  name_in Served p found.Unknown at h = own_in (name_kind k p found.Unknown) (why_name found.Unknown) at h
-
-  part_in : (r : Role) (part : Part) (at : ℕ) → P at → In (own_part tables names k r part at)
-  part_in r part at h =
-      if_in (is_called r && is_some (part_callee tables k part)) None (own (part_kind k part) (why_part part) at) none_in (own_in (part_kind k part) (why_part part) at h)
-
-  own_member_in : (r : Role) (t : Option StaticType) (m at : ℕ) → P at → In (own_member tables names k r t m at)
-  own_member_in r None m at h = none_in
-  own_member_in r (Some t) m at h = part_in r (part_of tables.names k t m) at h
-
-  called_in : (d : Option Callee) (ts : Option (List StaticType)) (at : ℕ) → P at → In (own_called tables names k d ts at)
-  called_in None ts at h = at_in Mismatch at h
-  called_in (Some d) ts at h = own_in (ts >>= λ us. call_kind k.classes d.takes d.gives us) (why_call d.gives) at h
-
-  super_in : (p : NameScope) (m : ℕ) (d : Option ℕ) (u : Option StaticType) (at : ℕ) → P at → In (own_super tables names k p m d u at)
-  super_in p m None u at h = at_in (why_super k p.this m) at h
-  super_in p m (Some d) u at h = own_in u (why_call (kind_at k d)) at h
-
-  make_in : (f : Found) (d : Option Callee) (u : Option StaticType) (at : ℕ) → P at → In (own_make tables names k f d u at)
-  make_in f None u at h = at_in (why_make f) at h
-  make_in f (Some d) u at h = own_in u Mismatch at h
-
-  board_in : (p : NameScope) (takes : List BoardParameter) (args : Trees) (at : ℕ) → P at → In (own_board tables names k p takes args at)
-  board_in p takes args at h =
-      then_in (unless (not (lacks_handler tables names k p takes args)) BadHandler at) (unless (are_given tables k p takes args) Mismatch at)
-      (unless_in (not (lacks_handler tables names k p takes args)) BadHandler at h) (unless_in (are_given tables k p takes args) Mismatch at h)
+  unsuited_in : (p : NameScope) (r : Role) (e : Tree) (at : ℕ) → P at → In (unsuited tables names k p r e at)
+  unsuited_in p r e at h = if_in (suits tables names k p r e) None (own (ty p r e) (cause_of tables k p r e) at) none_in (own_in (ty p r e) (cause_of tables k p r e) at h)
 
   local_in : (p : NameScope) (x at : ℕ) → P at → In (own_local tables names k p x at)
   local_in p x at h =
@@ -139,32 +96,18 @@ module _ (P : ℕ → Type 0) (tables : Tables) (names : Naming) (k : Known) whe
   test_in p absent at h = none_in
   test_in p (present e) at h = unless_in (is_boolean (ty p Free e)) Mismatch at h
 
-  -- a member that is read, and a call
-  abbrev member_failure : NameScope → Role → ℕ → Tree → ℕ → Option ℤ → Option BoardCall → Option Failure
-  member_failure p r at a m z b = elim z [
-    | Some y ↦ None
-    | None ↦ elim b [ Some call ↦ unless (is_called r) BadHandler at | None ↦ bad p Free a then own_member tables names k r (ty p Free a) m at ]
+  -- a call, by what the board's table says of what is called
+  abbrev call_failure : NameScope → Tree → Trees → Option StaticType → Code → ℕ → Option BoardCall → Option Failure
+  call_failure p f args o code at b = elim b [
+    | Some call ↦ failures tables names k p (row_of call).takes args then own o code at
+    | None ↦ bad p Called f then failures tables names k p [] args then own o code at
   ]
 
-  member_in : (p : NameScope) (r : Role) (at : ℕ) (a : Tree) (m : ℕ) (z : Option ℤ) (b : Option BoardCall) → P at → In (bad p Free a) → In (member_failure p r at a m z b)
-  member_in p r at a m (Some z) b h g = none_in
-  member_in p r at a m None (Some call) h g = unless_in (is_called r) BadHandler at h
-  member_in p r at a m None None h g = then_in (bad p Free a) (own_member tables names k r (ty p Free a) m at) g (own_member_in r (ty p Free a) m at h)
-
-  abbrev call_failure : NameScope → ℕ → Tree → Trees → Option BoardCall → Option Failure
-  call_failure p at f args b = elim b [
-    | Some call ↦ failures tables names k p (row_of call).takes args then own_board tables names k p (row_of call).takes args at
-    | None ↦ bad p Called f then failures tables names k p [] args then own_called tables names k (callee_of tables k p f) (types_of tables k p args) at
-  ]
-
-  call_in : (p : NameScope) (at : ℕ) (f : Tree) (args : Trees) (b : Option BoardCall) → P at → In (bad p Called f) → ((takes : List BoardParameter) → In (failures tables names k p takes args))
-      → In (call_failure p at f args b)
-  call_in p at f args (Some call) h g each =
-      then_in (failures tables names k p (row_of call).takes args) (own_board tables names k p (row_of call).takes args at) (each (row_of call).takes) (board_in p (row_of call).takes args at h)
-  call_in p at f args None h g each =
-      then_in (bad p Called f) (failures tables names k p [] args then own_called tables names k (callee_of tables k p f) (types_of tables k p args) at) g
-      (then_in (failures tables names k p [] args) (own_called tables names k (callee_of tables k p f) (types_of tables k p args) at) (each [])
-      (called_in (callee_of tables k p f) (types_of tables k p args) at h))
+  call_in : (p : NameScope) (f : Tree) (args : Trees) (o : Option StaticType) (code : Code) (at : ℕ) (b : Option BoardCall) → P at → In (bad p Called f) → ((takes : List BoardParameter) → In (failures tables names k p takes args))
+      → In (call_failure p f args o code at b)
+  call_in p f args o code at (Some call) h g each = then_in (failures tables names k p (row_of call).takes args) (own o code at) (each (row_of call).takes) (own_in o code at h)
+  call_in p f args o code at None h g each =
+      then_in (bad p Called f) (failures tables names k p [] args then own o code at) g (then_in (failures tables names k p [] args) (own o code at) (each []) (own_in o code at h))
 
   -- parts, and then the node itself
   one_in : (p : NameScope) (r : Role) (a e : Tree) (at : ℕ) → In (bad p Free a) → P at → In (bad p Free a then own (ty p r e) Mismatch at)
@@ -179,8 +122,8 @@ module _ (P : ℕ → Type 0) (tables : Tables) (names : Naming) (k : Known) whe
     failure_in p r (Text at n) h = none_in
     failure_in p r (Truth at b) h = none_in
     failure_in p r (Null at) h = none_in
-    failure_in p r (This at) h = own_in (this_kind p.this) (why_this p.this) at h
-    failure_in p r (Name at x) h = name_in r p (finds tables k p x) at h
+    failure_in p r (This at) h = own_in (ty p r (This at)) (cause_of tables k p r (This at)) at h
+    failure_in p r (Name at x) h = unsuited_in p r (Name at x) at h
     failure_in p r (Unary at op a) h = one_in p r a (Unary at op a) at (failure_in p Free a h.1) h.0
     failure_in p r (Binary at op a b) h = two_in (bad p Free a) (bad p Free b) p r (Binary at op a b) at (failure_in p Free a h.1) (failure_in p Free b h.2) h.0
     failure_in p r (Both at a b) h = two_in (bad p Free a) (bad p Free b) p r (Both at a b) at (failure_in p Free a h.1) (failure_in p Free b h.2) h.0
@@ -190,22 +133,23 @@ module _ (P : ℕ → Type 0) (tables : Tables) (names : Naming) (k : Known) whe
         (two_in (bad p Free a) (bad p Free b) p r (Choice at c a b) at (failure_in p Free a h.2) (failure_in p Free b h.3) h.0)
     failure_in p r (Set at op x e) h = two_in (bad p Free x) (bad p Given e) p r (Set at op x e) at (failure_in p Free x h.1) (failure_in p Given e h.2) h.0
     failure_in p r (Bump at x by late) h = one_in p r x (Bump at x by late) at (failure_in p Free x h.1) h.0
-    failure_in p r (Member at a m) h = member_in p r at a m (constant_of tables k p a m) (board_callee tables k p (Member at a m)) h.0 (failure_in p Free a h.1)
+    failure_in p r (Member at a m) h =
+        let here : Bool = is_of_board tables k p (Member at a m) in
+        then_in (if here then None else bad p Free a) (unsuited tables names k p r (Member at a m) at) (if_in here None (bad p Free a) none_in (failure_in p Free a h.1)) (unsuited_in p r (Member at a m) at h.0)
     failure_in p r (Item at a i) h = two_in (bad p Free a) (bad p Free i) p r (Item at a i) at (failure_in p Free a h.1) (failure_in p Free i h.2) h.0
     failure_in p r (Items at none) h = own_in (ty p r (Items at none)) Mismatch at h.0
     failure_in p r (Items at (more e rest)) h =
         two_in (bad p Free e) (failures tables names k p [] rest) p r (Items at (more e rest)) at (failure_in p Free e h.1.0) (failures_in p [] rest h.1.1) h.0
-    failure_in p r (Call at f args) h = call_in p at f args (board_callee tables k p f) h.0 (failure_in p Called f h.1) (λ takes. failures_in p takes args h.2)
-    failure_in p r (SuperCall at None args) h = then_in (failures tables names k p [] args) (failure_at Mismatch at) (failures_in p [] args h.1) (at_in Mismatch at h.0)
-    failure_in p r (SuperCall at (Some m) args) h =
-        then_in (failures tables names k p [] args) (own_super tables names k p m (super_method tables k p.this m) (ty p r (SuperCall at (Some m) args)) at) (failures_in p [] args h.1)
-        (super_in p m (super_method tables k p.this m) (ty p r (SuperCall at (Some m) args)) at h.0)
+    failure_in p r (Call at f args) h =
+        call_in p f args (ty p r (Call at f args)) (cause_of tables k p r (Call at f args)) at (board_callee tables k p f) h.0 (failure_in p Called f h.1) (λ takes. failures_in p takes args h.2)
+    failure_in p r (SuperCall at m args) h =
+        then_in (failures tables names k p [] args) (own (ty p r (SuperCall at m args)) (cause_of tables k p r (SuperCall at m args)) at) (failures_in p [] args h.1)
+        (own_in (ty p r (SuperCall at m args)) (cause_of tables k p r (SuperCall at m args)) at h.0)
     failure_in p r (Make at x args) h =
-        then_in (failures tables names k p [] args) (own_make tables names k (finds tables k p x) (made tables k (finds tables k p x)) (ty p r (Make at x args)) at) (failures_in p [] args h.1)
-        (make_in (finds tables k p x) (made tables k (finds tables k p x)) (ty p r (Make at x args)) at h.0)
+        then_in (failures tables names k p [] args) (own (ty p r (Make at x args)) (cause_of tables k p r (Make at x args)) at) (failures_in p [] args h.1)
+        (own_in (ty p r (Make at x args)) (cause_of tables k p r (Make at x args)) at h.0)
     failure_in p r (Handler at body) h =
-        let serves_so : Bool = is_served r && serves_itself tables names k p body in
-        then_in (handler_failure tables names k p body) (unless serves_so BadHandler at) (handler_in p body h.1) (unless_in serves_so BadHandler at h.0)
+        then_in (handler_failure tables names k p body) (unsuited tables names k p r (Handler at body) at) (handler_in p body h.1) (unsuited_in p r (Handler at body) at h.0)
 
     pub failures_in : (p : NameScope) (takes : List BoardParameter) (args : Trees) → TreesAt P args → In (failures tables names k p takes args)
     failures_in p takes none h = none_in
@@ -221,7 +165,7 @@ module _ (P : ℕ → Type 0) (tables : Tables) (names : Naming) (k : Known) whe
 
     pub initial_in : (p : NameScope) (shape : Option Annotation) (first : OptionalTree) → OptionAt P first → In (initial_failure tables names k p shape first)
     initial_in p shape absent h = none_in
-    initial_in p shape (present e) h = if_in (waives tables names k shape e) None (bad p (kind_role shape) e) none_in (failure_in p (kind_role shape) e h)
+    initial_in p shape (present e) h = if_in (waives shape e) None (bad p (kind_role shape) e) none_in (failure_in p (kind_role shape) e h)
 
     optional_in : (p : NameScope) (e : OptionalTree) → OptionAt P e → In (optional_failure tables names k p e)
     optional_in p absent h = none_in
@@ -265,10 +209,10 @@ module _ (P : ℕ → Type 0) (tables : Tables) (names : Naming) (k : Known) whe
         (then_in (statement_failure tables names k (inner q) a) (test_failure tables names k q test at) (statement_in (inner q) a h.4) (test_in q test at h.0))))
     statement_in p (ForOf at fixed x list a) h =
         let q = inner (looped tables names k p fixed x list) in
-        then_in (bad p Free list) (statement_failure tables names k q a then unless (not (is_dollar tables.names x)) UnknownName at then unless (is_list tables names k (ty p Free list)) Mismatch at) (failure_in p Free list h.1)
-        (then_in (statement_failure tables names k q a) (unless (not (is_dollar tables.names x)) UnknownName at then unless (is_list tables names k (ty p Free list)) Mismatch at) (statement_in q a h.2)
-        (then_in (unless (not (is_dollar tables.names x)) UnknownName at) (unless (is_list tables names k (ty p Free list)) Mismatch at) (unless_in (not (is_dollar tables.names x)) UnknownName at h.0)
-        (unless_in (is_list tables names k (ty p Free list)) Mismatch at h.0)))
+        then_in (bad p Free list) (statement_failure tables names k q a then unless (not (is_dollar tables.names x)) UnknownName at then unless (is_list (ty p Free list)) Mismatch at) (failure_in p Free list h.1)
+        (then_in (statement_failure tables names k q a) (unless (not (is_dollar tables.names x)) UnknownName at then unless (is_list (ty p Free list)) Mismatch at) (statement_in q a h.2)
+        (then_in (unless (not (is_dollar tables.names x)) UnknownName at) (unless (is_list (ty p Free list)) Mismatch at) (unless_in (not (is_dollar tables.names x)) UnknownName at h.0)
+        (unless_in (is_list (ty p Free list)) Mismatch at h.0)))
     statement_in p (Return at absent) h = unless_in (is_nothing p.gives) Mismatch at h.0
     statement_in p (Return at (present e)) h =
         then_in (bad p (kind_role p.gives) e) (unless (fits k (ty p (kind_role p.gives) e) p.gives) Mismatch at) (failure_in p (kind_role p.gives) e h.1)

@@ -2,18 +2,17 @@
 use Rattle.std.proofs.Common.{◌≡◌, ℕ, ◌&&◌, Bool, true, false, Option, Some, None, List, [], ◌∷◌, refl, sym, ap, ◌∙◌}
 use Rattle.std.specs.Prelude.{if◌then◌else◌}
 use Rattle.sts_base.specs.declared.tables.Tables.{Tables}
+use Rattle.sts_base.specs.declared.refused.Code.TheVariants.{Mismatch}
 use Rattle.sts_syntax.specs.Trees.{Trees, none, more}
 use Rattle.sts_scope.specs.declared.kinds.StaticType.{StaticType}
 use Rattle.sts_scope.specs.declared.entries.ClassHead.{ClassHead}
 use Rattle.sts_scope.specs.declared.known.Known.{Known}
-use Rattle.sts_scope.specs.Entries.{Naming}
 use Rattle.sts_scope.specs.Failures.{own}
 use Rattle.sts_scope.specs.Kinds.{array_of}
 use Rattle.sts_scope.specs.Codes.{why_call}
 use Rattle.sts_scope.specs.Places.{NameScope}
 use Rattle.sts_scope.specs.Rules.{goes, all_go, all_go_to, call_kind, items_type}
 use Rattle.type_derive.specs.declared.roles.Role.TheVariants.{Given}
-use Rattle.type_derive.specs.Nodes.{own_called}
 use Rattle.type_derive.specs.Shown.{goes_some, typed_go, typed_go_to}
 use Rattle.type_derive.specs.Typing.{◌>>=◌, Callee, type_of, types_of, called}
 use Rattle.type_check.specs.Seen.{fit_all, fit_one, listed_kind, called_kind, own_called_kind, kinds_given}
@@ -81,9 +80,10 @@ module _ (t : Tables) (k : Known) (p : NameScope) where
   called_is None args = refl
   called_is (Some c) args = call_if k.classes c.takes c.gives (types_of t k p args) ∙ ap (λ b. if b then c.gives else None) (fits args c.takes)
 
-  pub own_called_is : (names : Naming) (d : Option Callee) (args : Trees) (at : ℕ) → own_called t names k d (types_of t k p args) at ≡ own_called_kind k d (kinds_given t k p [] args) at
-  own_called_is names None args at = refl
-  own_called_is names (Some c) args at = ap (λ o. own o (why_call c.gives) at) (called_is (Some c) args)
+  pub own_called_is : (d : Option Callee) (args : Trees) (at : ℕ) →
+      own (called t k d (types_of t k p args)) (elim d [ None ↦ Mismatch | Some c ↦ why_call c.gives ]) at ≡ own_called_kind k d (kinds_given t k p [] args) at
+  own_called_is None args at = refl
+  own_called_is (Some c) args at = ap (λ o. own o (why_call c.gives) at) (called_is (Some c) args)
 
   pub list_is : (o : Option StaticType) (rest : Trees) → (o >>= λ u. types_of t k p rest >>= λ us. items_type k.classes u us) ≡ listed_kind k.classes o (kinds_given t k p [] rest)
   list_is None rest = refl

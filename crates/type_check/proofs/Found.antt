@@ -14,10 +14,12 @@ use Rattle.sts_scope.specs.declared.known.Found.{Found}
 use Rattle.sts_scope.specs.declared.known.Found.TheVariants as found
 use Rattle.sts_scope.specs.Kinds.{number}
 use Rattle.sts_scope.specs.Rules.{name_kind, part_of, part_kind as part_kind_of}
-use Rattle.type_derive.specs.Nodes.{own_member, own_called, own_board, own_make, own_super, is_called}
-use Rattle.type_check.specs.Seen.{plain, member, own_called_kind, called_kind, super_callee, listed_kind}
+use Rattle.type_derive.specs.Nodes.{cause_of, lacks_handler}
+use Rattle.sts_scope.specs.Codes.{why_call, why_make}
+use Rattle.type_check.specs.Seen.{is_called, plain, member, own_member, own_called_kind, called_kind, super_callee, listed_kind, board_kind_of, board_cause}
+use Rattle.type_check.proofs.Placed.{of_member, of_constant, of_board, of_object, member_by}
 use Rattle.type_check.proofs.Calls.{own_called_is, called_is, list_is}
-use Rattle.sts_syntax.specs.Trees.{Tree, Trees, Items, more, Name, Member, Call, Make, SuperCall}
+use Rattle.sts_syntax.specs.Trees.{Tree, Trees, Items, none, more, Name, Member, Call, Make, SuperCall}
 use Rattle.sts_syntax.specs.Views.{tree, trees}
 use Rattle.sts_scope.specs.declared.kinds.StaticType.{StaticType}
 use Rattle.sts_scope.specs.Failures.{Failure, ◌then◌, own, unless, Finds}
@@ -25,10 +27,9 @@ use Rattle.sts_scope.specs.Places.{NameScope}
 use Rattle.sts_scope.proofs.Laws.{drop_at, drop_end}
 use Rattle.type_derive.specs.declared.roles.Role.{Role}
 use Rattle.type_derive.specs.declared.roles.Role.TheVariants.{Free, Called}
-use Rattle.type_derive.specs.Typing.{◌>>=◌, Callee, type_of, types_of, role_of, behind, finds, space_of, spelling, constant_of, board_callee, callee_of, called, made, super_method, are_given, board_kind}
+use Rattle.type_derive.specs.Typing.{◌>>=◌, Callee, type_of, types_of, role_of, behind, finds, space_of, spelling, constant_of, board_callee, callee_of, called, made, are_given, board_kind}
 use Rattle.type_derive.specs.declared.context.Context.{Context}
 use Rattle.type_check.specs.declared.seen.Seen.{Seen}
-use Rattle.type_derive.specs.Naming.{naming}
 use Rattle.type_check.specs.Contexts.{failure, failures, kinds_of, seen_of}
 
 behind_is : (bs : List BoardParameter) (i : ℕ) → behind (drop i bs) ≡ drop (i + 1) bs
@@ -118,24 +119,50 @@ module _ (c : Context) (p : NameScope) (r : Role) where
   pub member_constant : (at m : ℕ) (a : Tree) (s : Seen) → s ≡ plain (Some number) → is_some (constant_of c.tables.now c.known.now p a m) ≡ true → s ≡ seen_of c p r (Member at a m)
   member_constant at m a s hs h = constant_by at m a s (constant_of c.tables.now c.known.now p a m) refl h hs
 
-  -- the failures of a member of what is no part of the board's interface
+  -- the failures of a member: of a constant of the board, of a call of the board, and of any other
+  constant_is : (at m : ℕ) (a : Tree) (o : Option ℤ) → constant_of c.tables.now c.known.now p a m ≡ o → is_some o ≡ true → failure c p r (Member at a m) ≡ None
+  constant_is at m a None e h = absurd (false≢true h)
+  constant_is at m a (Some z) e h =
+      let t = c.tables.now in
+      let k = c.known.now in
+      let b = board_callee t k p (Member at a m) in
+      let o = type_of t k p Free a in
+      let f = failure c p Free a in
+      member_by c p r at m a ∙ ap (λ q. of_member t k at m r q b o f) e ∙ of_constant t k at m r z b o f
+
+  pub constant_found : (at m : ℕ) (a : Tree) → is_some (constant_of c.tables.now c.known.now p a m) ≡ true → failure c p r (Member at a m) ≡ None
+  constant_found at m a h = constant_is at m a (constant_of c.tables.now c.known.now p a m) refl h
+
+  board_by : (at m : ℕ) (a : Tree) (o : Option BoardCall) → constant_of c.tables.now c.known.now p a m ≡ None → board_callee c.tables.now c.known.now p (Member at a m) ≡ o → is_some o ≡ true →
+      failure c p r (Member at a m) ≡ unless (is_called r) BadHandler at
+  board_by at m a None hc e h = absurd (false≢true h)
+  board_by at m a (Some call) hc e h =
+      let t = c.tables.now in
+      let k = c.known.now in
+      let f = failure c p Free a in
+      member_by c p r at m a ∙ ap (λ q. of_member t k at m r q (board_callee t k p (Member at a m)) (type_of t k p Free a) f) hc
+      ∙ ap (λ q. of_member t k at m r None q (type_of t k p Free a) f) e ∙ ap (λ q. of_member t k at m r None (Some call) q f) (no_type t k p at m a call e) ∙ of_board t k at m r call f
+
+  pub board_found : (at m : ℕ) (a : Tree) → constant_of c.tables.now c.known.now p a m ≡ None → is_some (board_callee c.tables.now c.known.now p (Member at a m)) ≡ true →
+      failure c p r (Member at a m) ≡ unless (is_called r) BadHandler at
+  board_found at m a hc h = board_by at m a (board_callee c.tables.now c.known.now p (Member at a m)) hc refl h
+
   pub member_is : (at m : ℕ) (a : Tree) → constant_of c.tables.now c.known.now p a m ≡ None → board_callee c.tables.now c.known.now p (Member at a m) ≡ None →
-      failure c p r (Member at a m) ≡ (failure c p Free a then own_member c.tables.now (naming c) c.known.now r (type_of c.tables.now c.known.now p Free a) m at)
+      failure c p r (Member at a m) ≡ (failure c p Free a then own_member c.tables.now c.known.now r (type_of c.tables.now c.known.now p Free a) m at)
   member_is at m a hc hb =
       let t = c.tables.now in
       let k = c.known.now in
-      let rest = failure c p Free a then own_member t (naming c) k r (type_of t k p Free a) m at in
-      ap (λ q. elim q [ Some z ↦ None | None ↦ elim (board_callee t k p (Member at a m)) [ Some call ↦ unless (is_called r) BadHandler at | None ↦ rest ] ]) hc
-      ∙ ap (λ q. elim q [ Some call ↦ unless (is_called r) BadHandler at | None ↦ rest ]) hb
+      let o = type_of t k p Free a in
+      let f = failure c p Free a in
+      member_by c p r at m a ∙ ap (λ q. of_member t k at m r q (board_callee t k p (Member at a m)) o f) hc ∙ ap (λ q. of_member t k at m r None q o f) hb ∙ of_object t k at m r o f
 
   pub member_found : (at m : ℕ) (a : Tree) (o : Option StaticType) (result : Result Seen Refused) → constant_of c.tables.now c.known.now p a m ≡ None → board_callee c.tables.now c.known.now p (Member at a m) ≡ None →
-      failure c p Free a ≡ None → o ≡ type_of c.tables.now c.known.now p Free a → Finds result (own_member c.tables.now (naming c) c.known.now r o m at) → Finds result (failure c p r (Member at a m))
+      failure c p Free a ≡ None → o ≡ type_of c.tables.now c.known.now p Free a → Finds result (own_member c.tables.now c.known.now r o m at) → Finds result (failure c p r (Member at a m))
   member_found at m a o result hc hb hf ho f =
       let t = c.tables.now in
       let k = c.known.now in
-      let n = naming c in
-      subst (Finds result) (sym (member_is at m a hc hb ∙ ap (λ q. q then own_member t n k r (type_of t k p Free a) m at) hf
-      ∙ ap (λ q. own_member t n k r q m at) (sym ho))) f
+      subst (Finds result) (sym (member_is at m a hc hb ∙ ap (λ q. q then own_member t k r (type_of t k p Free a) m at) hf
+      ∙ ap (λ q. own_member t k r q m at) (sym ho))) f
 
   pub member_typed : (at m : ℕ) (a : Tree) (o : Option StaticType) (result : Result Seen Refused) → constant_of c.tables.now c.known.now p a m ≡ None → o ≡ type_of c.tables.now c.known.now p Free a →
       IfOk result (λ s. s ≡ member c.tables.now c.known.now o m) → IfOk result (λ s. s ≡ seen_of c p r (Member at a m))
@@ -146,21 +173,24 @@ module _ (c : Context) (p : NameScope) (r : Role) where
       (subst (λ q. IfOk result (λ s. s ≡ member t k q m)) ho seen)
 
   -- the failures of a call of the board, and of any other
-  pub board_call_is : (at : ℕ) (f : Tree) (args : Trees) (call : BoardCall) → board_callee c.tables.now c.known.now p f ≡ Some call →
-      failure c p r (Call at f args) ≡ (failures c p (row_of call).takes args then own_board c.tables.now (naming c) c.known.now p (row_of call).takes args at)
-  board_call_is at f args call hb =
+  abbrev of_call : ℕ → Tree → Trees → Option BoardCall → Option Failure
+  of_call at f args q =
       let t = c.tables.now in
       let k = c.known.now in
-      let n = naming c in
-      ap (λ q. elim q [ Some call ↦ failures c p (row_of call).takes args then own_board t n k p (row_of call).takes args at | None ↦ failure c p Called f then failures c p [] args then own_called t n k (callee_of t k p f) (types_of t k p args) at ]) hb
+      let own_so = own (elim q [ Some call ↦ if are_given t k p (row_of call).takes args then Some (board_kind (row_of call).gives) else None | None ↦ called t k (callee_of t k p f) (types_of t k p args) ])
+      (elim q [ Some call ↦ if lacks_handler t k p (row_of call).takes args then BadHandler else Mismatch | None ↦ elim (callee_of t k p f) [ None ↦ Mismatch | Some d ↦ why_call d.gives ] ]) at in
+      elim q [ Some call ↦ failures c p (row_of call).takes args then own_so | None ↦ failure c p Called f then failures c p [] args then own_so ]
+
+  pub board_call_is : (at : ℕ) (f : Tree) (args : Trees) (call : BoardCall) → board_callee c.tables.now c.known.now p f ≡ Some call →
+      failure c p r (Call at f args) ≡ (failures c p (row_of call).takes args then own (board_kind_of c.tables.now c.known.now p call args) (board_cause c.tables.now c.known.now p call args) at)
+  board_call_is at f args call hb = ap (of_call at f args) hb
 
   pub other_call_is : (at : ℕ) (f : Tree) (args : Trees) → board_callee c.tables.now c.known.now p f ≡ None →
-      failure c p r (Call at f args) ≡ (failure c p Called f then failures c p [] args then own_called c.tables.now (naming c) c.known.now (callee_of c.tables.now c.known.now p f) (types_of c.tables.now c.known.now p args) at)
+      failure c p r (Call at f args)
+      ≡ (failure c p Called f then failures c p [] args then own_called_kind c.known.now (callee_of c.tables.now c.known.now p f) (kinds_of c p [] args) at)
   other_call_is at f args hb =
-      let t = c.tables.now in
-      let k = c.known.now in
-      let n = naming c in
-      ap (λ q. elim q [ Some call ↦ failures c p (row_of call).takes args then own_board t n k p (row_of call).takes args at | None ↦ failure c p Called f then failures c p [] args then own_called t n k (callee_of t k p f) (types_of t k p args) at ]) hb
+      ap (of_call at f args) hb
+      ∙ ap (λ q. failure c p Called f then failures c p [] args then q) (own_called_is c.tables.now c.known.now p (callee_of c.tables.now c.known.now p f) args at)
 
   pub call_found : (at : ℕ) (f : Tree) (args : Trees) (d : Option Callee) (os : List (Option StaticType)) (result : Result Seen Refused) → board_callee c.tables.now c.known.now p f ≡ None →
       failure c p Called f ≡ None → failures c p [] args ≡ None → d ≡ callee_of c.tables.now c.known.now p f → os ≡ kinds_of c p [] args →
@@ -168,9 +198,8 @@ module _ (c : Context) (p : NameScope) (r : Role) where
   call_found at f args d os result hb hf ha hd ho found =
       let t = c.tables.now in
       let k = c.known.now in
-      let n = naming c in
-      let own = own_called t n k (callee_of t k p f) (types_of t k p args) at in
-      subst (Finds result) (sym (other_call_is at f args hb ∙ ap (λ q. q then failures c p [] args then own) hf ∙ ap (λ q. q then own) ha ∙ own_called_is t k p n (callee_of t k p f) args at
+      let own_so = own_called_kind k (callee_of t k p f) (kinds_of c p [] args) at in
+      subst (Finds result) (sym (other_call_is at f args hb ∙ ap (λ q. q then failures c p [] args then own_so) hf ∙ ap (λ q. q then own_so) ha
       ∙ ap (λ q. own_called_kind k q (kinds_of c p [] args) at) (sym hd) ∙ ap (λ q. own_called_kind k d q at) (sym ho))) found
 
   pub call_typed : (at : ℕ) (f : Tree) (args : Trees) (d : Option Callee) (os : List (Option StaticType)) (result : Result Seen Refused) → board_callee c.tables.now c.known.now p f ≡ None →
@@ -183,15 +212,14 @@ module _ (c : Context) (p : NameScope) (r : Role) where
       ∙ called_is t k p (callee_of t k p f) args ∙ ap (λ q. called_kind k.classes q (kinds_of c p [] args)) (sym hd) ∙ ap (λ q. called_kind k.classes d q) (sym ho))) seen
 
   pub make_found : (at x : ℕ) (args : Trees) (os : List (Option StaticType)) (result : Result Seen Refused) → failures c p [] args ≡ None → os ≡ kinds_of c p [] args →
-      (let f = finds c.tables.now c.known.now p x in Finds result (own_make c.tables.now (naming c) c.known.now f (made c.tables.now c.known.now f) (called_kind c.known.now.classes (made c.tables.now c.known.now f) os) at)) →
+      (let f = finds c.tables.now c.known.now p x in Finds result (own (called_kind c.known.now.classes (made c.tables.now c.known.now f) os) (why_make f) at)) →
       Finds result (failure c p r (Make at x args))
   make_found at x args os result ha ho found =
       let t = c.tables.now in
       let k = c.known.now in
-      let n = naming c in
       let f = finds t k p x in
-      subst (Finds result) (sym (ap (λ q. q then own_make t n k f (made t k f) (called t k (made t k f) (types_of t k p args)) at) ha
-      ∙ ap (λ q. own_make t n k f (made t k f) q at) (called_is t k p (made t k f) args ∙ ap (λ q. called_kind k.classes (made t k f) q) (sym ho)))) found
+      subst (Finds result) (sym (ap (λ q. q then own (called t k (made t k f) (types_of t k p args)) (why_make f) at) ha
+      ∙ ap (λ q. own q (why_make f) at) (called_is t k p (made t k f) args ∙ ap (λ q. called_kind k.classes (made t k f) q) (sym ho)))) found
 
   pub make_typed : (at x : ℕ) (args : Trees) (os : List (Option StaticType)) (result : Result Seen Refused) → os ≡ kinds_of c p [] args →
       IfOk result (λ s. s ≡ plain (called_kind c.known.now.classes (made c.tables.now c.known.now (finds c.tables.now c.known.now p x)) os)) → IfOk result (λ s. s ≡ seen_of c p r (Make at x args))
@@ -202,15 +230,15 @@ module _ (c : Context) (p : NameScope) (r : Role) where
       subst (λ q. IfOk result (λ s. s ≡ plain q)) (sym (called_is t k p d args ∙ ap (λ q. called_kind k.classes d q) (sym ho))) seen
 
   pub super_found : (at m : ℕ) (args : Trees) (os : List (Option StaticType)) (result : Result Seen Refused) → failures c p [] args ≡ None → os ≡ kinds_of c p [] args →
-      Finds result (own_super c.tables.now (naming c) c.known.now p m (super_method c.tables.now c.known.now p.this m) (called_kind c.known.now.classes (super_callee c.tables.now c.known.now p.this m) os) at) →
+      Finds result (own (called_kind c.known.now.classes (super_callee c.tables.now c.known.now p.this m) os) (cause_of c.tables.now c.known.now p Free (SuperCall at (Some m) none)) at) →
       Finds result (failure c p r (SuperCall at (Some m) args))
   super_found at m args os result ha ho found =
       let t = c.tables.now in
       let k = c.known.now in
-      let n = naming c in
       let d = super_callee t k p.this m in
-      subst (Finds result) (sym (ap (λ q. q then own_super t n k p m (super_method t k p.this m) (called t k d (types_of t k p args)) at) ha
-      ∙ ap (λ q. own_super t n k p m (super_method t k p.this m) q at) (called_is t k p d args ∙ ap (λ q. called_kind k.classes d q) (sym ho)))) found
+      let why = cause_of t k p Free (SuperCall at (Some m) none) in
+      subst (Finds result) (sym (ap (λ q. q then own (called t k d (types_of t k p args)) why at) ha
+      ∙ ap (λ q. own q why at) (called_is t k p d args ∙ ap (λ q. called_kind k.classes d q) (sym ho)))) found
 
   pub super_typed : (at m : ℕ) (args : Trees) (os : List (Option StaticType)) (result : Result Seen Refused) → os ≡ kinds_of c p [] args →
       IfOk result (λ s. s ≡ plain (called_kind c.known.now.classes (super_callee c.tables.now c.known.now p.this m) os)) → IfOk result (λ s. s ≡ seen_of c p r (SuperCall at (Some m) args))

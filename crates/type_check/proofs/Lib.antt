@@ -6,5 +6,6 @@ pub mod Forms
 pub mod Nested
 pub mod Steps
 pub mod Parts
+pub mod Placed
 pub mod Taking
 pub mod Texts

@@ -20,7 +20,7 @@ use Rattle.sts_scope.specs.Globals.{is_dollar}
 use Rattle.sts_scope.specs.Headings.{written_failure}
 use Rattle.type_derive.specs.declared.roles.Role.{Role}
 use Rattle.type_derive.specs.declared.roles.Role.TheVariants.{Free}
-use Rattle.type_derive.specs.Typing.{type_of}
+use Rattle.type_derive.specs.Typing.{fits, type_of}
 use Rattle.sts_scope.proofs.Laws.{drop_at}
 use Rattle.type_derive.specs.Moves.{Extends}
 use Rattle.type_derive.specs.Returns as derive
@@ -75,20 +75,16 @@ module _ (c : Context) where
   items_is None = refl
   items_is (Some t) = refl
 
-  pub list_is : (o : Option StaticType) → node.is_list c.tables.now (naming c) c.known.now o ≡ bounds.is_list o
-  list_is None = refl
-  list_is (Some t) = refl
-
   -- what a declared name is given
   pub bound_is : (p : NameScope) (shape : Option Annotation) (e : OptionalTree) →
-      derive.bound c.tables.now (naming c) c.known.now p shape e ≡ bounds.bound_kind (naming c) shape (initial_kind c.tables.now (naming c) c.known.now p shape e)
+      derive.bound c.tables.now (naming c) c.known.now p shape e ≡ bounds.bound_kind (naming c) shape (initial_kind c.tables.now c.known.now p shape e)
   bound_is p (Some a) e = refl
   bound_is p None absent = refl
   bound_is p None (present e) = refl
 
   pub own_bound_is : (p : NameScope) (shape : Option Annotation) (e : OptionalTree) (at : ℕ) →
       node.own_bound c.tables.now (naming c) c.known.now p shape e at
-      ≡ bounds.bound_failure (naming c) c.known.now shape (bounds.is_present e) (initial_kind c.tables.now (naming c) c.known.now p shape e) at
+      ≡ bounds.bound_failure (naming c) c.known.now shape (bounds.is_present e) (initial_kind c.tables.now c.known.now p shape e) at
   own_bound_is p None e at = ap (λ o. own o NeedsType at) (bound_is p None e)
   own_bound_is p (Some a) absent at = refl
   own_bound_is p (Some a) (present e) at = refl
@@ -108,12 +104,12 @@ module _ (c : Context) where
       then initial_failure c p (optional_annotation (out-Binding b).shape) (optional_expression (out-Binding b).first)
       then node.own_local c.tables.now (naming c) c.known.now p (out-Binding b).name (out-Binding b).at
       then bounds.bound_failure (naming c) c.known.now (optional_annotation (out-Binding b).shape) (is_some (out-Binding b).first)
-      (initial_kind c.tables.now (naming c) c.known.now p (optional_annotation (out-Binding b).shape) (optional_expression (out-Binding b).first)) (out-Binding b).at)
+      (initial_kind c.tables.now c.known.now p (optional_annotation (out-Binding b).shape) (optional_expression (out-Binding b).first)) (out-Binding b).at)
   declaration_step p b =
       let shape = optional_annotation (out-Binding b).shape in
       let first = optional_expression (out-Binding b).first in
       let local = node.own_local c.tables.now (naming c) c.known.now p (out-Binding b).name (out-Binding b).at in
-      let k = initial_kind c.tables.now (naming c) c.known.now p shape first in
+      let k = initial_kind c.tables.now c.known.now p shape first in
       ap (declaration_failure c p) (declaration_parts b)
       ∙ ap (λ o. written_failure (naming c) (out-Binding b).at shape then initial_failure c p shape first then local then o)
       (own_bound_is p shape first (out-Binding b).at ∙ ap (λ t. bounds.bound_failure (naming c) c.known.now shape t k (out-Binding b).at) (present_is (out-Binding b).first))
@@ -121,7 +117,7 @@ module _ (c : Context) where
   -- behind it
   pub declared_step : (p : NameScope) (fixed : Bool) (b : Binding) → declared c p fixed (declaration b)
       ≡ with p (out-Binding b).name (bounds.bound_kind (naming c) (optional_annotation (out-Binding b).shape)
-      (initial_kind c.tables.now (naming c) c.known.now p (optional_annotation (out-Binding b).shape) (optional_expression (out-Binding b).first))) fixed
+      (initial_kind c.tables.now c.known.now p (optional_annotation (out-Binding b).shape) (optional_expression (out-Binding b).first))) fixed
   declared_step p fixed b =
       ap (declared c p fixed) (declaration_parts b)
       ∙ ap (λ k. with p (out-Binding b).name k fixed) (bound_is p (optional_annotation (out-Binding b).shape) (optional_expression (out-Binding b).first))
@@ -129,27 +125,27 @@ module _ (c : Context) where
   -- a loop through an array
   pub for_of_step : (p q : NameScope) (at x : ℕ) (fixed : Bool) (list : Tree) (a : Statement) (o : Option StaticType) → failure c p Free list ≡ None → o ≡ type_of c.tables.now c.known.now p Free list →
       q ≡ with (inner p) x (bounds.items_of o) fixed →
-      statement_failure c p (ForOf at fixed x list a) ≡ (statement_failure c (inner q) a then unless (not (is_dollar c.tables.now.names x)) UnknownName at then unless (bounds.is_list o) Mismatch at)
+      statement_failure c p (ForOf at fixed x list a) ≡ (statement_failure c (inner q) a then unless (not (is_dollar c.tables.now.names x)) UnknownName at then unless (node.is_list o) Mismatch at)
   for_of_step p q at x fixed list a o hf ho hq =
       let t = c.tables.now in
       let k = c.known.now in
       let n = naming c in
       let dollar = unless (not (is_dollar t.names x)) UnknownName at in
       let u = type_of t k p Free list in
-      ap (λ y. y then statement_failure c (inner (derive.looped t n k p fixed x list)) a then dollar then unless (node.is_list t n k u) Mismatch at) hf
-      ∙ ap (λ y. statement_failure c (inner (with (inner p) x y fixed)) a then dollar then unless (node.is_list t n k u) Mismatch at) (items_is u ∙ ap bounds.items_of (sym ho))
-      ∙ ap (λ y. statement_failure c (inner y) a then dollar then unless (node.is_list t n k u) Mismatch at) (sym hq)
-      ∙ ap (λ y. statement_failure c (inner q) a then dollar then unless y Mismatch at) (list_is u ∙ ap bounds.is_list (sym ho))
+      ap (λ y. y then statement_failure c (inner (derive.looped t n k p fixed x list)) a then dollar then unless (node.is_list u) Mismatch at) hf
+      ∙ ap (λ y. statement_failure c (inner (with (inner p) x y fixed)) a then dollar then unless (node.is_list u) Mismatch at) (items_is u ∙ ap bounds.items_of (sym ho))
+      ∙ ap (λ y. statement_failure c (inner y) a then dollar then unless (node.is_list u) Mismatch at) (sym hq)
+      ∙ ap (λ y. statement_failure c (inner q) a then dollar then unless y Mismatch at) (ap node.is_list (sym ho))
 
   pub returned_step : (p : NameScope) (at : ℕ) (e : Tree) (r : Role) → r ≡ node.kind_role p.gives →
-      statement_failure c p (Return at (present e)) ≡ (failure c p r e then unless (node.fits c.known.now (type_of c.tables.now c.known.now p r e) p.gives) Mismatch at)
-  returned_step p at e r h = ap (λ y. failure c p y e then unless (node.fits c.known.now (type_of c.tables.now c.known.now p y e) p.gives) Mismatch at) (sym h)
+      statement_failure c p (Return at (present e)) ≡ (failure c p r e then unless (fits c.known.now (type_of c.tables.now c.known.now p r e) p.gives) Mismatch at)
+  returned_step p at e r h = ap (λ y. failure c p y e then unless (fits c.known.now (type_of c.tables.now c.known.now p y e) p.gives) Mismatch at) (sym h)
 
   pub returned_found : (p : NameScope) (at : ℕ) (e : Tree) (r : Role) (o : Option StaticType) (b : Bool) (result : Result Unit Refused) → r ≡ node.kind_role p.gives → failure c p r e ≡ None →
-      o ≡ type_of c.tables.now c.known.now p r e → b ≡ node.fits c.known.now o p.gives → Finds result (unless b Mismatch at) → Finds result (statement_failure c p (Return at (present e)))
+      o ≡ type_of c.tables.now c.known.now p r e → b ≡ fits c.known.now o p.gives → Finds result (unless b Mismatch at) → Finds result (statement_failure c p (Return at (present e)))
   returned_found p at e r o b result h hf ho hb found =
-      subst (Finds result) (sym (returned_step p at e r h ∙ ap (λ y. y then unless (node.fits c.known.now (type_of c.tables.now c.known.now p r e) p.gives) Mismatch at) hf
-      ∙ ap (λ y. unless (node.fits c.known.now y p.gives) Mismatch at) (sym ho) ∙ ap (λ y. unless y Mismatch at) (sym hb))) found
+      subst (Finds result) (sym (returned_step p at e r h ∙ ap (λ y. y then unless (fits c.known.now (type_of c.tables.now c.known.now p r e) p.gives) Mismatch at) hf
+      ∙ ap (λ y. unless (fits c.known.now y p.gives) Mismatch at) (sym ho) ∙ ap (λ y. unless y Mismatch at) (sym hb))) found
 
   pub first_extends : (p q r : NameScope) (first : OptionalStatement) → q ≡ p → r ≡ after_first c q first → Extends q r
   first_extends p q r omitted e h = extends_to q q r (stays q) h

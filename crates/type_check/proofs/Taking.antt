@@ -11,7 +11,6 @@ use Rattle.sts_syntax.specs.Views.{tree, trees}
 use Rattle.sts_scope.specs.declared.kinds.StaticType.{StaticType}
 use Rattle.sts_scope.specs.declared.entries.ClassHead.{ClassHead}
 use Rattle.sts_scope.specs.declared.known.Known.{Known}
-use Rattle.sts_scope.specs.Entries.{Naming}
 use Rattle.sts_scope.specs.Places.{NameScope}
 use Rattle.sts_scope.proofs.Laws.{drop_at, drop_end}
 use Rattle.type_derive.specs.Nodes.{lacks_handler}
@@ -43,19 +42,19 @@ headed xs i x rest d e = let h : get_or xs i d ∷ drop (i + 1) xs ≡ x ∷ res
 tailed : {A : Type 0} (xs : List A) (i : ℕ) (x : A) (rest : List A) → drop i xs ≡ x ∷ rest → drop (i + 1) xs ≡ rest
 tailed xs i x rest e = let h : get_or xs i x ∷ drop (i + 1) xs ≡ x ∷ rest = sym (drop_or xs i x (within xs i x rest e)) ∙ e in cc
 
-module _ (t : Tables) (names : Naming) (k : Known) (p : NameScope) where
+module _ (t : Tables) (k : Known) (p : NameScope) where
   -- of the parameters and arguments from the i-th on
   abbrev lacking : List Parameter → List Expr → ℕ → Bool
-  lacking takes args i = lacks_handler t names k p (map board_parameter (drop i takes)) (trees (drop i args))
+  lacking takes args i = lacks_handler t k p (map board_parameter (drop i takes)) (trees (drop i args))
 
   lacks_one : (q : Parameter) (ps : List BoardParameter) (a : Tree) (rest : Trees) →
-      lacks_handler t names k p (board_parameter q ∷ ps) (more a rest) ≡ (lacks_here t k p (board_parameter q) a || lacks_handler t names k p ps rest)
+      lacks_handler t k p (board_parameter q ∷ ps) (more a rest) ≡ (lacks_here t k p (board_parameter q) a || lacks_handler t k p ps rest)
   lacks_one v.Number ps a rest = refl
   lacks_one v.Text ps a rest = refl
   lacks_one v.Handler ps a rest = refl
   lacks_one v.Drawing ps a rest = refl
 
-  lacks_none : (qs : List Parameter) → lacks_handler t names k p (map board_parameter qs) none ≡ false
+  lacks_none : (qs : List Parameter) → lacks_handler t k p (map board_parameter qs) none ≡ false
   lacks_none [] = refl
   lacks_none (v.Number ∷ qs) = refl
   lacks_none (v.Text ∷ qs) = refl
@@ -65,8 +64,8 @@ module _ (t : Tables) (names : Naming) (k : Known) (p : NameScope) where
   pub lacks_step : (takes : List Parameter) (args : List Expr) (i : ℕ) (d : Parameter) (a : Expr) → i < length takes → i < length args → a ≡ get_or args i a →
       lacking takes args i ≡ (lacks_here t k p (board_parameter (get_or takes i d)) (tree a) || lacking takes args (i + 1))
   lacks_step takes args i d a l m is =
-      ap (λ xs. lacks_handler t names k p (map board_parameter xs) (trees (drop i args))) (drop_or takes i d l)
-      ∙ ap (λ ys. lacks_handler t names k p (map board_parameter (get_or takes i d ∷ drop (i + 1) takes)) (trees ys)) (drop_at args i a m is)
+      ap (λ xs. lacks_handler t k p (map board_parameter xs) (trees (drop i args))) (drop_or takes i d l)
+      ∙ ap (λ ys. lacks_handler t k p (map board_parameter (get_or takes i d ∷ drop (i + 1) takes)) (trees ys)) (drop_at args i a m is)
       ∙ lacks_one (get_or takes i d) (map board_parameter (drop (i + 1) takes)) (tree a) (trees (drop (i + 1) args))
 
   pub lacks_found : (takes : List Parameter) (args : List Expr) (i : ℕ) (d : Parameter) (a : Expr) (all : Bool) → i < length takes → i < length args → a ≡ get_or args i a →
@@ -78,8 +77,8 @@ module _ (t : Tables) (names : Naming) (k : Known) (p : NameScope) where
   lacks_missed takes args i d a all l m is h rest = sym (lacks_step takes args i d a l m is ∙ ap (λ b. b || lacking takes args (i + 1)) h) ∙ rest
 
   pub lacks_end : (takes : List Parameter) (args : List Expr) (i : ℕ) → min (length takes) (length args) ≤ i → lacking takes args i ≡ false
-  lacks_end [] args i h = ap (λ xs. lacks_handler t names k p (map board_parameter xs) (trees (drop i args))) (drop_end {A = Parameter} [] i (omega arith))
-  lacks_end (q ∷ qs) [] i h = ap (λ ys. lacks_handler t names k p (map board_parameter (drop i (q ∷ qs))) (trees ys)) (drop_end {A = Expr} [] i (omega arith)) ∙ lacks_none (drop i (q ∷ qs))
+  lacks_end [] args i h = ap (λ xs. lacks_handler t k p (map board_parameter xs) (trees (drop i args))) (drop_end {A = Parameter} [] i (omega arith))
+  lacks_end (q ∷ qs) [] i h = ap (λ ys. lacks_handler t k p (map board_parameter (drop i (q ∷ qs))) (trees ys)) (drop_end {A = Expr} [] i (omega arith)) ∙ lacks_none (drop i (q ∷ qs))
   lacks_end (q ∷ qs) (a ∷ bs) zero h = absurd (omega (arith, h))
   lacks_end (q ∷ qs) (a ∷ bs) (suc i) h = let h' : min (length qs) (length bs) ≤ i = omega (arith, h) in lacks_end qs bs i h'
 

@@ -53,12 +53,12 @@ pub field_is : (c : Context) (self : This) (b : Binding) → field_failure c.tab
     ≡ (written_failure (naming c) (out-Binding b).at (optional_annotation (out-Binding b).shape)
     then initial_failure c (outside self false None) (optional_annotation (out-Binding b).shape) (optional_expression (out-Binding b).first)
     then bound_failure (naming c) c.known.now (optional_annotation (out-Binding b).shape) (is_some (out-Binding b).first)
-    (initial_kind c.tables.now (naming c) c.known.now (outside self false None) (optional_annotation (out-Binding b).shape) (optional_expression (out-Binding b).first)) (out-Binding b).at)
+    (initial_kind c.tables.now c.known.now (outside self false None) (optional_annotation (out-Binding b).shape) (optional_expression (out-Binding b).first)) (out-Binding b).at)
 field_is c self b =
     let p = outside self false None in
     let shape = optional_annotation (out-Binding b).shape in
     let first = optional_expression (out-Binding b).first in
-    let k = initial_kind c.tables.now (naming c) c.known.now p shape first in
+    let k = initial_kind c.tables.now c.known.now p shape first in
     ap (field_failure c.tables.now (naming c) c.known.now self) (declaration_parts b)
     ∙ ap (λ o. written_failure (naming c) (out-Binding b).at shape then initial_failure c p shape first then o)
     (own_bound_is c p shape first (out-Binding b).at ∙ ap (λ t. bound_failure (naming c) c.known.now shape t k (out-Binding b).at) (present_is (out-Binding b).first))

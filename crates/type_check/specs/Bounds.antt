@@ -12,7 +12,7 @@ use Rattle.sts_scope.specs.declared.known.Known.{Known}
 use Rattle.sts_scope.specs.Entries.{Naming, kind_of}
 use Rattle.sts_scope.specs.Failures.{Failure, unless, own}
 use Rattle.sts_scope.specs.Kinds.{is_array, item}
-use Rattle.type_derive.specs.Nodes.{fits}
+use Rattle.type_derive.specs.Typing.{fits}
 
 -- there is an initialiser
 abbrev pub is_present : OptionalTree → Bool
@@ -29,11 +29,6 @@ abbrev pub bound_failure : Naming → Known → Option Annotation → Bool → O
 bound_failure names k None there first at = own first NeedsType at
 bound_failure names k (Some a) false first at = None
 bound_failure names k (Some a) true first at = unless (fits k first (kind_of names a)) Mismatch at
-
--- the type of what a loop goes through is an array's
-abbrev pub is_list : Option StaticType → Bool
-is_list None = false
-is_list (Some t) = is_array t
 
 -- the type of the items that a loop goes through
 abbrev pub items_of : Option StaticType → Option StaticType

@@ -1,5 +1,5 @@
 -- What is seen of an expression that was gone through.
-use Rattle.std.specs.Prelude.{ℕ, Option, Some, None, List, [], ◌∷◌, Bool, true, false, not, ◌&&◌, if◌then◌else◌}
+use Rattle.std.specs.Prelude.{ℕ, Option, Some, None, List, [], ◌∷◌, Bool, true, false, not, ◌&&◌, is_some, if◌then◌else◌}
 use Rattle.sts_base.specs.declared.tables.Tables.{Tables}
 use Rattle.sts_syntax.specs.BoardTable as board
 use Rattle.sts_syntax.specs.BoardTable.{BoardParameter, row_of}
@@ -9,21 +9,30 @@ use Rattle.sts_syntax.specs.Trees.{Tree, Member, Trees, none, more, OptionalTree
 use Rattle.sts_scope.specs.declared.kinds.StaticType.{StaticType}
 use Rattle.sts_scope.specs.declared.entries.ClassHead.{ClassHead}
 use Rattle.sts_scope.specs.declared.known.Known.{Known}
+use Rattle.sts_scope.specs.declared.known.Found.{Found}
 use Rattle.sts_scope.specs.declared.known.Part.{Part}
 use Rattle.sts_scope.specs.declared.known.This.{This as Self}
-use Rattle.sts_base.specs.declared.refused.Code.TheVariants.{Mismatch}
+use Rattle.sts_base.specs.declared.refused.Code.{Code}
+use Rattle.sts_base.specs.declared.refused.Code.TheVariants.{BadHandler, Mismatch}
 use Rattle.sts_scope.specs.Failures.{Failure, failure_at, own}
-use Rattle.sts_scope.specs.Codes.{why_call}
+use Rattle.sts_scope.specs.Codes.{why_part, why_call}
 use Rattle.sts_scope.specs.Kinds.{array_of}
-use Rattle.sts_scope.specs.Entries.{Naming}
 use Rattle.sts_scope.specs.Places.{NameScope}
-use Rattle.sts_scope.specs.Rules.{takes_at, kind_at, part_of, part_kind, is_boolean}
+use Rattle.sts_scope.specs.Rules.{name_kind, takes_at, kind_at, part_of, part_kind, is_boolean, serves}
 use Rattle.type_derive.specs.declared.roles.Role.{Role}
-use Rattle.type_derive.specs.declared.roles.Role.TheVariants.{Free}
-use Rattle.type_derive.specs.Typing.{Callee, callee, super_method, ◌>>=◌, type_of, role_of, behind, given_to, is_routine, is_drawing, are_given, board_kind}
+use Rattle.type_derive.specs.declared.roles.Role.TheVariants.{Free, Called, Served}
+use Rattle.type_derive.specs.Typing.{Callee, callee, named_callee, part_callee, super_method, ◌>>=◌, type_of, role_of, behind, fits, is_routine, is_drawing, are_given, board_kind}
 use Rattle.type_derive.specs.Shown.{goes_some}
-use Rattle.type_derive.specs.Nodes.{waives, kind_role}
+use Rattle.type_derive.specs.Nodes.{waives, kind_role, why_named, lacks_handler}
 use Rattle.type_check.specs.declared.seen.Seen.{Seen}
+
+abbrev pub is_called : Role → Bool
+is_called Called = true
+is_called _ = false
+
+abbrev pub is_served : Role → Bool
+is_served Served = true
+is_served _ = false
 
 -- what stands behind no dot
 abbrev pub plain : Option StaticType → Seen
@@ -79,14 +88,30 @@ module _ (tables : Tables) (k : Known) where
   is_test p absent = true
   is_test p (present e) = is_boolean (type_of tables k p Free e)
 
-module _ (tables : Tables) (names : Naming) (k : Known) where
   -- the type of an initialiser, if it gives one
   abbrev pub initial_kind : NameScope → Option Annotation → OptionalTree → Option StaticType
   initial_kind p shape absent = None
   initial_kind p shape (present e) =
-      if waives tables names k shape e then None else type_of tables k p (kind_role shape) e
+      if waives shape e then None else type_of tables k p (kind_role shape) e
 
-module _ (tables : Tables) (k : Known) where
+  -- the failure of a name, by what it stands for
+  abbrev pub name_suits : Role → Found → Bool
+  name_suits Called f = is_some (named_callee tables k f)
+  name_suits Served f = serves k f
+  name_suits r f = false
+
+  abbrev pub own_name : NameScope → Role → Found → ℕ → Option Failure
+  own_name p r f at = if name_suits r f then None else own (name_kind k p f) (why_named k r f) at
+
+  -- the failure of a member, by what it is, and by the type of what stands before its dot
+  abbrev pub own_part : Role → Part → ℕ → Option Failure
+  own_part r part at =
+      if is_called r && is_some (part_callee tables k part) then None else own (part_kind k part) (why_part part) at
+
+  abbrev pub own_member : Role → Option StaticType → ℕ → ℕ → Option Failure
+  own_member r None m at = failure_at Mismatch at
+  own_member r (Some t) m at = own_part r (part_of tables.names k t m) at
+
   -- what is seen of a member, by the type of what stands before its dot
   abbrev pub member : Option StaticType → ℕ → Seen
   member t m = record {
@@ -102,7 +127,7 @@ module _ (tables : Tables) (k : Known) where
 
   -- an argument of this type fits its place in a call of the board
   abbrev pub fits_place : NameScope → BoardParameter → Option StaticType → Tree → Bool
-  fits_place p (board.Of u) kind a = given_to tables k kind u
+  fits_place p (board.Of u) kind a = fits k kind (Some (board_kind u))
   fits_place p board.Handler kind a = is_routine tables k p a
   fits_place p board.Drawing kind a = is_drawing tables a
 
@@ -110,3 +135,7 @@ module _ (tables : Tables) (k : Known) where
   abbrev pub board_kind_of : NameScope → BoardCall → Trees → Option StaticType
   board_kind_of p call args =
       if are_given tables k p (row_of call).takes args then Some (board_kind (row_of call).gives) else None
+
+  -- why one fails
+  abbrev pub board_cause : NameScope → BoardCall → Trees → Code
+  board_cause p call args = if lacks_handler tables k p (row_of call).takes args then BadHandler else Mismatch

@@ -6,7 +6,6 @@ ghost use Rattle.type_derive.specs.Nodes as node;
 ghost use Rattle.type_derive.specs.Scopes.{place};
 ghost use Rattle.type_derive.specs.Shown.{shown};
 ghost use Rattle.type_derive.specs.Typing as typing;
-ghost use Rattle.type_derive.specs.Naming.{naming};
 ghost use Rattle.type_check.specs.Seen.{fit_all, fit_one, listed_kind, called_kind, kinds_given, lacks_here, fits_place};
 
 use sts_scope::{Base, Environment, StaticType, flat};
@@ -97,8 +96,8 @@ pub fn lacks_handler(
     takes: &[BoardParameter],
     args: &[Expr],
 ) -> bool
-    ensures { result ≡ node.lacks_handler context.now.tables.now (naming context.now) context.now.known.now
-        (place scope.now) (map board_parameter takes.now) (trees args.now) }
+    ensures { result ≡ node.lacks_handler context.now.tables.now context.now.known.now (place scope.now)
+        (map board_parameter takes.now) (trees args.now) }
 {
     for i in 0..takes.len().min(args.len()) {
         if lacks_here(context, scope, takes[i], &args[i]) {

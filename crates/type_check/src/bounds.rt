@@ -7,6 +7,7 @@ ghost use Rattle.sts_scope.specs.Failures.{Finds};
 ghost use Rattle.sts_scope.specs.Rules as rule;
 ghost use Rattle.sts_scope.specs.Values.{value_at};
 ghost use Rattle.type_derive.specs.Nodes as node;
+ghost use Rattle.type_derive.specs.Typing as typing;
 ghost use Rattle.type_derive.specs.Scopes.{place};
 ghost use Rattle.type_check.specs.Bounds as bounds;
 ghost use Rattle.type_derive.specs.Naming.{naming};
@@ -51,7 +52,7 @@ pub fn is_nothing(kind: Option<StaticType>) -> bool
 
 /// Whether it is an array's type.
 pub fn is_list(kind: Option<StaticType>) -> bool
-    ensures { result ≡ bounds.is_list kind }
+    ensures { result ≡ node.is_list kind }
 {
     match kind {
         None => false,
@@ -81,7 +82,7 @@ pub fn shape_role(shape: &Option<Shape>) -> Role
 
 /// Whether a value goes where a type is given, both of which are known.
 pub fn fits(known: &Environment, s: Option<StaticType>, t: Option<StaticType>) -> bool
-    ensures { result ≡ node.fits known.now s t }
+    ensures { result ≡ typing.fits known.now s t }
 {
     match (s, t) {
         (Some(s), Some(t)) => goes(known, s, t),

@@ -1,12 +1,15 @@
 // Why a node has no type although its parts have.
 ghost use Rattle.std.specs.Prelude.{◌≡◌};
 ghost use Rattle.sts_scope.specs.Codes as code;
+ghost use Rattle.type_derive.specs.declared.roles.Role.TheVariants as role;
+ghost use Rattle.type_derive.specs.Nodes as node;
 
 use sts_base::Code;
 use sts_scope::{Environment, Found, Part, StaticType, This};
+use type_derive::{Role, kind_at};
 
 /// Why a name can't be read.
-pub fn why_name(found: Found) -> Code
+fn why_name(found: Found) -> Code
     ensures { result ≡ code.why_name found }
 {
     match found {
@@ -16,6 +19,31 @@ pub fn why_name(found: Found) -> Code
         Found::Local(_) => Code::NeedsType,
         Found::Global(_) => Code::NeedsType,
         Found::Function(_) => Code::BadHandler,
+    }
+}
+
+/// Why a name serves no events.
+fn why_served(known: &Environment, found: Found) -> Code
+    ensures { result ≡ node.why_named known.now role.Served found }
+{
+    match found {
+        Found::Function(d) => match kind_at(known, d) {
+            None => Code::NeedsType,
+            Some(_) => Code::BadHandler,
+        },
+        _ => why_name(found),
+    }
+}
+
+/// Why a name can't stand in its place.
+pub fn why_named(known: &Environment, role: Role, found: Found) -> Code
+    ensures { result ≡ node.why_named known.now role found }
+{
+    match role {
+        Role::Served => why_served(known, found),
+        Role::Free => why_name(found),
+        Role::Given => why_name(found),
+        Role::Called => why_name(found),
     }
 }
 

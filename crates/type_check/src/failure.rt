@@ -16,7 +16,7 @@ ghost use Rattle.type_check.specs.Contexts as c;
 ghost use Rattle.type_derive.specs.Nodes as node;
 ghost use Rattle.type_derive.specs.Naming.{naming};
 ghost use Rattle.type_derive.specs.Moves.{Extends};
-ghost use Rattle.type_check.specs.Seen.{is_test, initial_kind};
+ghost use Rattle.type_check.specs.Seen.{is_served, is_test, initial_kind};
 
 use crate::bounds::{
     bound, check_local, check_parameter_types, fits, is_boolean, is_list, is_nothing, kind_role,
@@ -415,7 +415,7 @@ fn may_serve(params: &[Param], gives: Option<StaticType>) -> bool
 
 /// Whether it stands where a handler is wanted and may be one.
 fn serves_there(role: Role, serves: bool) -> bool
-    ensures { result ≡ (node.is_served role && serves) }
+    ensures { result ≡ (is_served role && serves) }
 {
     is_served(role) && serves
 }
@@ -691,7 +691,7 @@ pub fn initial(
     ensures found { Finds result (c.initial_failure context.now (place scope.now) (optional_annotation shape.now)
         (optional_expression first.now)) }
     ensures kind { IfOk result (λ kind. kind
-        ≡ initial_kind context.now.tables.now (naming context.now) context.now.known.now (place scope.now)
+        ≡ initial_kind context.now.tables.now context.now.known.now (place scope.now)
         (optional_annotation shape.now) (optional_expression first.now)) }
 {
     match first {

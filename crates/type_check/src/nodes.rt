@@ -1,6 +1,8 @@
 // What a node says for itself once its parts were gone through: its type, or why it has none.
 ghost use Rattle.std.specs.Prelude.{◌≡◌, ◌&&◌, Some, None, is_some, map, IfOk, if◌then◌else◌};
 ghost use Rattle.sts_syntax.specs.BoardTable.{row_of};
+ghost use Rattle.sts_syntax.specs.BoardViews.{board_parameter};
+ghost use Rattle.sts_syntax.specs.Trees as t;
 ghost use Rattle.sts_syntax.specs.Views.{tree, trees};
 ghost use Rattle.sts_base.specs.declared.refused.Code.TheVariants as code;
 ghost use Rattle.sts_scope.specs.Failures as failure;
@@ -10,29 +12,28 @@ ghost use Rattle.sts_scope.specs.Rules as rule;
 ghost use Rattle.sts_scope.specs.Codes as cause;
 ghost use Rattle.type_derive.specs.Nodes as node;
 ghost use Rattle.type_derive.specs.declared.roles.Role.TheVariants as role;
-ghost use Rattle.sts_scope.specs.declared.known.Found.TheVariants as found;
 ghost use Rattle.type_derive.specs.Scopes.{place};
 ghost use Rattle.type_derive.specs.Shown.{shown, all_shown};
 ghost use Rattle.type_derive.specs.Typing as typing;
 ghost use Rattle.type_derive.specs.Typing.{◌>>=◌ as bind};
 ghost use Rattle.type_derive.specs.Naming.{naming};
-ghost use Rattle.type_check.specs.Seen.{plain, part_at, member, kinds_given, listed_kind, called_kind, own_called_kind, super_callee, board_kind_of};
+ghost use Rattle.type_check.specs.Seen.{is_called, is_served, name_suits, own_name, own_part, own_member, board_cause, plain, part_at, member, kinds_given, listed_kind, called_kind, own_called_kind, super_callee, board_kind_of};
 
 use crate::arguments::{are_given, call_type, items_kind, lacks_handler};
-use crate::codes::{why_call, why_make, why_name, why_part, why_super, why_this};
+use crate::codes::{why_call, why_make, why_named, why_part, why_super, why_this};
 use crate::seen::{Seen, own, plain};
 use sts_base::{Code, Refused};
-use sts_scope::{Found, Part, StaticType, unless};
-use sts_syntax::{BoardCall, Expr, Node};
+use sts_scope::{Found, Part, StaticType};
+use sts_syntax::{BoardCall, BoardParameter, Expr, Node};
 use type_derive::{
-    Called, Context, Role, Scope, board_kind, constant, gives_of, kind_at, made, name_fixed,
-    name_found, name_kind, named_callee, part_callee, part_kind, part_of, part_settable, serves,
-    super_method, this_kind,
+    Called, Context, Role, Scope, board_kind, constant, gives_of, made, name_fixed, name_found,
+    name_kind, named_callee, part_callee, part_kind, part_of, part_settable, serves, super_method,
+    this_kind,
 };
 
 /// Whether it is the place of what is called.
 pub fn is_called(role: Role) -> bool
-    ensures { result ≡ node.is_called role }
+    ensures { result ≡ is_called role }
 {
     match role {
         Role::Called => true,
@@ -44,7 +45,7 @@ pub fn is_called(role: Role) -> bool
 
 /// Whether it is the place of what serves events.
 pub fn is_served(role: Role) -> bool
-    ensures { result ≡ node.is_served role }
+    ensures { result ≡ is_served role }
 {
     match role {
         Role::Served => true,
@@ -54,33 +55,49 @@ pub fn is_served(role: Role) -> bool
     }
 }
 
-/// The name of a function where a handler is wanted: its result is known, and it takes nothing and gives nothing.
-fn served_name(context: &Context, d: usize, at: u32) -> Result<Seen, Refused>
-    ensures found { (p : _) → Finds result (node.own_name context.now.tables.now
-        (naming context.now) context.now.known.now role.Served p (found.Function d) at) }
-    ensures seen { IfOk result (λ s. s ≡ plain None) }
+/// What is called by its name.
+fn is_routine(found: Found) -> bool
+    ensures { (tables : _) → (known : _) → result ≡ is_some (typing.named_callee tables known found) }
 {
-    own(kind_at(context.known, d), Code::NeedsType, at)?;
-    unless(
-        serves(context.known, Found::Function(d)),
-        Code::BadHandler,
-        at,
-    )?;
-    Ok(plain(None))
+    match found {
+        Found::Function(_) => true,
+        Found::Local(_) => false,
+        Found::Global(_) => false,
+        Found::Class(_) => false,
+        Found::Captured => false,
+        Found::Unknown => false,
+    }
 }
 
-/// The name of a function: where one is called, where a handler is wanted, or where it is none's place.
-fn routine_seen(context: &Context, role: Role, d: usize, at: u32) -> Result<Seen, Refused>
-    ensures found { (p : _) → Finds result (node.own_name context.now.tables.now
-        (naming context.now) context.now.known.now role p (found.Function d) at) }
-    ensures seen { IfOk result (λ s. s ≡ plain None) }
+/// A name that needs no type: of a function, where one is called, or where a handler is wanted and it serves.
+fn name_suits(context: &Context, role: Role, found: Found) -> bool
+    ensures { result ≡ name_suits context.now.tables.now context.now.known.now role found }
 {
     match role {
-        Role::Called => Ok(plain(None)),
-        Role::Served => served_name(context, d, at),
-        Role::Free => own(None, Code::BadHandler, at),
-        Role::Given => own(None, Code::BadHandler, at),
+        Role::Called => is_routine(found),
+        Role::Served => serves(context.known, found),
+        Role::Free => false,
+        Role::Given => false,
     }
+}
+
+/// What a name stands for.
+fn found_seen(
+    context: &Context,
+    scope: &Scope,
+    role: Role,
+    found: Found,
+    at: u32,
+) -> Result<Seen, Refused>
+    ensures found { Finds result (own_name context.now.tables.now context.now.known.now
+        (place scope.now) role found at) }
+    ensures seen { IfOk result (λ s. s ≡ plain (rule.name_kind context.now.known.now (place scope.now) found)) }
+{
+    let kind = name_kind(context.known, scope, found);
+    if name_suits(context, role, found) {
+        return Ok(plain(kind));
+    }
+    own(kind, why_named(context.known, role, found), at)
 }
 
 /// A name.
@@ -91,17 +108,14 @@ pub fn name_seen(
     x: u32,
     at: u32,
 ) -> Result<Seen, Refused>
-    ensures found { Finds result (node.own_name context.now.tables.now (naming context.now) context.now.known.now role
-        (place scope.now) (typing.finds context.now.tables.now context.now.known.now (place scope.now) x) at) }
+    ensures found { Finds result (node.unsuited context.now.tables.now (naming context.now) context.now.known.now
+        (place scope.now) role (t.Name at x) at) }
     ensures seen { IfOk result (λ s. s ≡ plain
         (rule.name_kind context.now.known.now (place scope.now)
         (typing.finds context.now.tables.now context.now.known.now (place scope.now) x))) }
 {
     let found = name_found(context.tables, context.known, scope, x);
-    match found {
-        Found::Function(d) => routine_seen(context, role, d, at),
-        _ => own(name_kind(context.known, scope, found), why_name(found), at),
-    }
+    found_seen(context, scope, role, found, at)
 }
 
 /// `this`.
@@ -115,7 +129,7 @@ pub fn this_seen(scope: &Scope, at: u32) -> Result<Seen, Refused>
 /// What may be called behind a dot, where it is called.
 fn is_callee(role: Role, part: Part) -> bool
     ensures { (tables : _) → (known : _) → result
-        ≡ (node.is_called role && is_some (typing.part_callee tables known part)) }
+        ≡ (is_called role && is_some (typing.part_callee tables known part)) }
 {
     match part {
         Part::Method(_) => is_called(role),
@@ -129,8 +143,7 @@ fn is_callee(role: Role, part: Part) -> bool
 
 /// What stands behind a dot.
 fn part_seen(context: &Context, role: Role, part: Part, at: u32) -> Result<Seen, Refused>
-    ensures found { Finds result (node.own_part context.now.tables.now
-        (naming context.now) context.now.known.now role part at) }
+    ensures found { Finds result (own_part context.now.tables.now context.now.known.now role part at) }
     ensures seen { IfOk result
         (λ s. s ≡ record { kind = rule.part_kind context.now.known.now part; part = Some part }) }
 {
@@ -152,12 +165,11 @@ pub fn member_seen(
     m: u32,
     at: u32,
 ) -> Result<Seen, Refused>
-    ensures found { Finds result (node.own_member context.now.tables.now
-        (naming context.now) context.now.known.now role t m at) }
+    ensures found { Finds result (own_member context.now.tables.now context.now.known.now role t m at) }
     ensures seen { IfOk result (λ s. s ≡ member context.now.tables.now context.now.known.now t m) }
 {
     match t {
-        None => Ok(plain(None)),
+        None => own(None, Code::Mismatch, at),
         Some(t) => part_seen(
             context,
             role,
@@ -239,10 +251,10 @@ pub fn super_call_seen(
     kinds: &[Option<StaticType>],
     at: u32,
 ) -> Result<Seen, Refused>
-    ensures found { Finds result (node.own_super context.now.tables.now (naming context.now) context.now.known.now
-        (place scope.now) m (typing.super_method context.now.tables.now context.now.known.now scope.now.this m)
-        (called_kind context.now.known.now.classes
-        (super_callee context.now.tables.now context.now.known.now scope.now.this m) kinds.now) at) }
+    ensures found { Finds result (failure.own (called_kind context.now.known.now.classes
+        (super_callee context.now.tables.now context.now.known.now scope.now.this m) kinds.now)
+        (node.cause_of context.now.tables.now context.now.known.now (place scope.now) role.Free
+        (t.SuperCall at (Some m) t.none)) at) }
     ensures seen { IfOk result (λ s. s ≡ plain
         (called_kind context.now.known.now.classes
         (super_callee context.now.tables.now context.now.known.now scope.now.this m) kinds.now)) }
@@ -273,10 +285,8 @@ pub fn make_seen(
 ) -> Result<Seen, Refused>
     ensures found { let f = typing.finds context.now.tables.now context.now.known.now
         (place scope.now) x in Finds result
-        (node.own_make context.now.tables.now (naming context.now) context.now.known.now f
-        (typing.made context.now.tables.now context.now.known.now f)
-        (called_kind context.now.known.now.classes
-        (typing.made context.now.tables.now context.now.known.now f) kinds.now) at) }
+        (failure.own (called_kind context.now.known.now.classes
+        (typing.made context.now.tables.now context.now.known.now f) kinds.now) (cause.why_make f) at) }
     ensures seen { let f = typing.finds context.now.tables.now context.now.known.now (place scope.now) x in IfOk result
         (λ s. s ≡ plain (called_kind context.now.known.now.classes
         (typing.made context.now.tables.now context.now.known.now f) kinds.now)) }
@@ -291,6 +301,18 @@ pub fn make_seen(
     }
 }
 
+/// Why arguments don't fit a call of the board.
+fn why_board(context: &Context, scope: &Scope, takes: &[BoardParameter], args: &[Expr]) -> Code
+    ensures { result ≡ if node.lacks_handler context.now.tables.now context.now.known.now (place scope.now)
+        (map board_parameter takes.now) (trees args.now) then code.BadHandler else code.Mismatch }
+{
+    if lacks_handler(context, scope, takes, args) {
+        Code::BadHandler
+    } else {
+        Code::Mismatch
+    }
+}
+
 /// A call of the board.
 pub fn board_call_seen(
     context: &Context,
@@ -302,23 +324,17 @@ pub fn board_call_seen(
 ) -> Result<Seen, Refused>
     requires { kinds.now ≡ kinds_given context.now.tables.now context.now.known.now (place scope.now)
         (row_of call).takes (trees args.now) }
-    ensures found { Finds result (node.own_board context.now.tables.now (naming context.now) context.now.known.now
-        (place scope.now) (row_of call).takes (trees args.now) at) }
+    ensures found { Finds result (failure.own
+        (board_kind_of context.now.tables.now context.now.known.now (place scope.now) call (trees args.now))
+        (board_cause context.now.tables.now context.now.known.now (place scope.now) call (trees args.now)) at) }
     ensures seen { IfOk result (λ s. s ≡ plain
         (board_kind_of context.now.tables.now context.now.known.now (place scope.now) call (trees args.now))) }
 {
     let takes = call.takes();
-    unless(
-        !lacks_handler(context, scope, takes, args),
-        Code::BadHandler,
-        at,
-    )?;
-    unless(
-        are_given(context, scope, takes, kinds, args),
-        Code::Mismatch,
-        at,
-    )?;
-    Ok(plain(Some(board_kind(call.gives()))))
+    if are_given(context, scope, takes, kinds, args) {
+        return Ok(plain(Some(board_kind(call.gives()))));
+    }
+    own(None, why_board(context, scope, takes, args), at)
 }
 
 /// A list literal, by its first item's type and those of the others.

@@ -24,7 +24,7 @@ use Rattle.sts_scope.specs.Rules.{this_kind, name_kind, name_fixed, local_kind, 
 use Rattle.sts_scope.specs.Lookup.{entry_number, sort_of}
 use Rattle.type_derive.specs.declared.roles.Role.{Role}
 use Rattle.type_derive.specs.declared.roles.Role.TheVariants.{Free, Given}
-use Rattle.type_derive.specs.Typing.{◌>>=◌, Callee, callee, finds, space_of, space, constant_of, own_call, board_callee, named_callee, part_callee, super_method, made, given_to, called, type_of, types_of, callee_of, settable, names_function, is_routine, are_given, is_drawing, board_kind, spelling, is_given}
+use Rattle.type_derive.specs.Typing.{◌>>=◌, Callee, callee, finds, space_of, space, constant_of, own_call, board_callee, named_callee, part_callee, super_method, made, fits, called, type_of, types_of, callee_of, settable, names_function, is_routine, are_given, is_drawing, board_kind, spelling, is_given}
 use Rattle.type_derive.specs.Derived.{Less}
 use Rattle.type_derive.specs.Growth.{LocalsGrow, KnownGrows, PlaceGrows, CalleeGrows}
 
@@ -196,10 +196,10 @@ module _ (tables : Tables) where
         let P : Option StaticType → Type 0 = λ z. Less (call_kind k.classes c.takes c.gives vs) z in
         subst P (sym (ap (λ cs. call_kind cs d.takes d.gives vs) g.classes ∙ ap (λ t. call_kind k.classes t d.gives vs) h.0)) (call_less k.classes c.takes c.gives d.gives vs h.1))
 
-    given_less : (o u : Option StaticType) (t : ValueType) → Less o u → given_to tables k o t ≡ true → given_to tables l u t ≡ true
+    given_less : (o u : Option StaticType) (t : ValueType) → Less o u → fits k o (Some (board_kind t)) ≡ true → fits l u (Some (board_kind t)) ≡ true
     given_less None u t h e = cc
     given_less (Some s) u t h e =
-        let P : Option StaticType → Type 0 = λ z. given_to tables l z t ≡ true in
+        let P : Option StaticType → Type 0 = λ z. fits l z (Some (board_kind t)) ≡ true in
         subst P (sym h) (ap (λ cs. goes cs s (board_kind t)) g.classes ∙ e)
 
     abbrev super_callee : Known → Option ℕ → Option Callee
@@ -358,7 +358,7 @@ module _ (tables : Tables) where
         given_grows : (ps : List BoardParameter) (es : Trees) → are_given tables k p ps es ≡ true → are_given tables l q ps es ≡ true
         given_grows [] none e = e
         given_grows (board.Of u ∷ ps) (more a rest) e =
-            and_true (given_to tables k (type_of tables k p Given a) u) (are_given tables k p ps rest) (given_to tables l (type_of tables l q Given a) u) (are_given tables l q ps rest)
+            and_true (fits k (type_of tables k p Given a) (Some (board_kind u))) (are_given tables k p ps rest) (fits l (type_of tables l q Given a) (Some (board_kind u))) (are_given tables l q ps rest)
             (given_less (type_of tables k p Given a) (type_of tables l q Given a) u (grows Given a)) (given_grows ps rest) e
         given_grows (board.Handler ∷ ps) (more a rest) e =
             and_true (is_routine tables k p a) (are_given tables k p ps rest) (is_routine tables l q a) (are_given tables l q ps rest) (function_grows a) (given_grows ps rest) e

@@ -60,11 +60,11 @@ items_less tables names k l (Some t) u h =
     let P : Option StaticType → Type 0 = λ z. Less (if is_array t then Some (item t) else None) (items_of tables names l z) in
     subst P (sym h) (less_refl (if is_array t then Some (item t) else None))
 
-pub answered_grows : (tables : Tables) (names : Naming) (k l : Known) (a b : Option (Option StaticType)) → ReturnGrows a b → Less (answered tables names k a) (answered tables names l b)
-answered_grows tables names k l None None h = refl
-answered_grows tables names k l (Some a) (Some b) h = h
-answered_grows tables names k l None (Some b) h = absurd h
-answered_grows tables names k l (Some a) None h = absurd h
+pub answered_grows : (a b : Option (Option StaticType)) → ReturnGrows a b → Less (answered a) (answered b)
+answered_grows None None h = refl
+answered_grows (Some a) (Some b) h = h
+answered_grows None (Some b) h = absurd h
+answered_grows (Some a) None h = absurd h
 
 module _ (tables : Tables) (names : Naming) (k l : Known) (g : KnownGrows k l) where
   pub bound_grows : (p q : NameScope) (shape : Option Annotation) (first : OptionalTree) → PlaceGrows p q → Less (bound tables names k p shape first) (bound tables names l q shape first)
@@ -132,7 +132,7 @@ module _ (tables : Tables) (names : Naming) (k l : Known) (g : KnownGrows k l) w
   follows_grows library (Initial self first) = let p = outside self library None in bound_grows p p None first (place_refl p)
   follows_grows library (Returns self params all) =
       let p = within (parameter_locals names params) self None library in
-      answered_grows tables names k l (all_returned tables names k p all) (all_returned tables names l p all) (statements_grow p p all (place_refl p))
+      answered_grows (all_returned tables names k p all) (all_returned tables names l p all) (statements_grow p p all (place_refl p))
 
 -- a table read at a place
 kind_there : (k : Known) (xs : List (Option StaticType)) (d : ℕ) → kind_at (record k { kinds = xs }) d ≡ at xs d

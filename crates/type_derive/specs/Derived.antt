@@ -59,7 +59,7 @@ module _ (names : Naming) where
   follows tables k library (Stated kind) = kind
   follows tables k library (Initial self first) = bound tables names k (outside self library None) None first
   follows tables k library (Returns self params all) =
-      answered tables names k
+      answered
       (all_returned tables names k (within (parameter_locals names params) self None library) all)
 
 -- what a table has at a place

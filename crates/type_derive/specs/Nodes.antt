@@ -1,6 +1,7 @@
 -- The first failure of an expression: its parts in text order, then its own.
 use Rattle.std.specs.Prelude.{ℕ, Bool, true, false, not, ◌&&◌, ◌||◌, Option, Some, None, List, [], ◌∷◌, ◌++◌, is_some, if◌then◌else◌}
 use Rattle.sts_base.specs.declared.tables.Tables.{Tables}
+use Rattle.sts_base.specs.declared.refused.Code.{Code}
 use Rattle.sts_base.specs.declared.refused.Code.TheVariants.{UnknownName, TwiceNamed, NeedsType, BadHandler, Mismatch}
 use Rattle.sts_syntax.specs.Annotations.{Annotation}
 use Rattle.sts_syntax.specs.BoardTable as board
@@ -10,44 +11,81 @@ use Rattle.sts_scope.specs.declared.kinds.StaticType.{StaticType}
 use Rattle.sts_scope.specs.declared.known.Known.{Known}
 use Rattle.sts_scope.specs.declared.known.Found.{Found}
 use Rattle.sts_scope.specs.declared.known.Found.TheVariants as found
-use Rattle.sts_scope.specs.declared.known.Part.{Part}
 use Rattle.sts_scope.specs.Kinds.{is_array}
-use Rattle.sts_scope.specs.Failures.{Failure, ◌then◌, failure_at, unless, own}
+use Rattle.sts_scope.specs.Failures.{Failure, ◌then◌, unless, own}
 use Rattle.sts_scope.specs.Entries.{Naming, kind_of}
 use Rattle.sts_scope.specs.Globals.{is_dollar}
 use Rattle.sts_scope.specs.Headings.{written_failure}
 use Rattle.sts_scope.specs.Places.{NameScope, in_handler, inner, is_twice}
-use Rattle.sts_scope.specs.Rules.{this_kind, name_kind, part_of, part_kind, call_kind, kind_at, is_nothing, is_boolean, serves, goes}
+use Rattle.sts_scope.specs.Rules.{part_of, kind_at, is_nothing, is_boolean, serves}
 use Rattle.sts_scope.specs.Codes.{why_name, why_this, why_part, why_call, why_make, why_super}
 use Rattle.type_derive.specs.declared.roles.Role.{Role}
 use Rattle.type_derive.specs.declared.roles.Role.TheVariants.{Free, Given, Called, Served}
-use Rattle.type_derive.specs.Typing.{◌>>=◌, Callee, finds, constant_of, board_callee, callee_of, part_callee, super_method, made, type_of, types_of, is_routine, are_given, role_of, behind}
+use Rattle.type_derive.specs.Typing.{fits, finds, constant_of, board_callee, callee_of, super_method, type_of, is_routine, role_of, behind}
 use Rattle.type_derive.specs.Returns.{is_alone, parameter_locals, all_returned, answered, bound, after, after_first, looped}
 
 abbrev pub takes_nothing : List Parameter → Bool
 takes_nothing [] = true
 takes_nothing (q ∷ rest) = false
 
-abbrev pub is_called : Role → Bool
-is_called Called = true
-is_called _ = false
-
-abbrev pub is_served : Role → Bool
-is_served Served = true
-is_served _ = false
-
 -- what the place of a value does with it: where a type is known to be given, `[]` fits
 abbrev pub kind_role : {A : Type 0} → Option A → Role
 kind_role None = Free
 kind_role (Some a) = Given
 
-abbrev pub fits : Known → Option StaticType → Option StaticType → Bool
-fits k (Some s) (Some t) = goes k.classes s t
-fits k _ _ = false
-
 abbrev pub parameter_types_failure : Naming → List Parameter → Option Failure
 parameter_types_failure names [] = None
 parameter_types_failure names (q ∷ rest) = written_failure names q.at q.shape then parameter_types_failure names rest
+
+-- `null` or `[]` alone is an initialiser without a type
+abbrev pub waives : Option Annotation → Tree → Bool
+waives None e = is_alone e
+waives (Some a) e = false
+
+abbrev pub is_list : Option StaticType → Bool
+is_list None = false
+is_list (Some t) = is_array t
+
+-- a name that is read; where a handler is wanted, the result of a function may be what can't be told
+abbrev pub why_named : Known → Role → Found → Code
+why_named k Served (found.Function d) = elim (kind_at k d) [ None ↦ NeedsType | Some t ↦ BadHandler ]
+why_named k r f = why_name f
+
+module _ (tables : Tables) (k : Known) where
+  -- no function stands where a handler is wanted
+  abbrev pub lacks_handler : NameScope → List BoardParameter → Trees → Bool
+  lacks_handler p (board.Handler ∷ ps) (more a rest) = not (is_routine tables k p a) || lacks_handler p ps rest
+  lacks_handler p (_ ∷ ps) (more a rest) = lacks_handler p ps rest
+  lacks_handler p _ _ = false
+
+  -- Why a node has no type although its parts have no failure: its forms in the order of the list in docs/LANGUAGE.md.
+  abbrev pub cause_of : NameScope → Role → Tree → Code
+  cause_of p r (Name at x) = why_named k r (finds tables k p x)
+  cause_of p r (Member at a m) = elim (board_callee tables k p (Member at a m)) [
+    | Some call ↦ BadHandler
+    | None ↦ elim (type_of tables k p Free a) [ None ↦ Mismatch | Some u ↦ why_part (part_of tables.names k u m) ]
+  ]
+  cause_of p r (This at) = why_this p.this
+  cause_of p r (Make at x args) = why_make (finds tables k p x)
+  cause_of p r (SuperCall at (Some m) args) = elim (super_method tables k p.this m) [
+    | None ↦ why_super k p.this m
+    | Some d ↦ why_call (kind_at k d)
+  ]
+  cause_of p r (Call at f args) = elim (board_callee tables k p f) [
+    | Some call ↦ if lacks_handler p (row_of call).takes args then BadHandler else Mismatch
+    | None ↦ elim (callee_of tables k p f) [ None ↦ Mismatch | Some d ↦ why_call d.gives ]
+  ]
+  cause_of p r (Handler at body) = BadHandler
+  cause_of p r e = Mismatch
+
+  -- a node whose parts have no failure has no type
+  abbrev pub untyped : NameScope → Role → Tree → ℕ → Option Failure
+  untyped p r e at = own (type_of tables k p r e) (cause_of p r e) at
+
+  -- `a.m` is a part of the board's interface, before which `a` is no node
+  abbrev pub is_of_board : NameScope → Tree → Bool
+  is_of_board p (Member at a m) = is_some (constant_of tables k p a m) || is_some (board_callee tables k p (Member at a m))
+  is_of_board p e = false
 
 module _ (tables : Tables) (names : Naming) (k : Known) where
   -- in a handler: its own parameters are known, and its result is the one that is written, else that of its first value, as any function's
@@ -58,7 +96,7 @@ module _ (tables : Tables) (names : Naming) (k : Known) where
   abbrev pub handler_result : NameScope → List Parameter → Option Annotation → Statements → Option StaticType
   handler_result p params (Some a) all = kind_of names a
   handler_result p params None all =
-      answered tables names k (all_returned tables names k (handler_within p params None) all)
+      answered (all_returned tables names k (handler_within p params None) all)
 
   abbrev pub handler_place : NameScope → List Parameter → Option Annotation → Statements → NameScope
   handler_place p params gives all = handler_within p params (handler_result p params gives all)
@@ -68,42 +106,15 @@ module _ (tables : Tables) (names : Naming) (k : Known) where
   serves_itself p (Does at params gives all arrow) =
       takes_nothing params && is_nothing (handler_result p params gives all)
 
-  -- a name: that of a function where one is called is no node, and where a handler is wanted it is one that takes nothing and gives nothing
-  abbrev pub own_name : Role → NameScope → Found → ℕ → Option Failure
-  own_name Called p (found.Function d) at = None
-  own_name Served p (found.Function d) at =
-      own (kind_at k d) NeedsType at then unless (serves k (found.Function d)) BadHandler at
-  own_name r p f at = own (name_kind k p f) (why_name f) at
+  -- Some nodes need no type in their place: what is called, and where a handler is wanted a function that takes nothing and gives nothing.
+  abbrev pub suits : NameScope → Role → Tree → Bool
+  suits p Called e = is_of_board tables k p e || is_some (callee_of tables k p e)
+  suits p Served (Name at x) = serves k (finds tables k p x)
+  suits p Served (Handler at body) = serves_itself p body
+  suits p r e = false
 
-  abbrev pub own_part : Role → Part → ℕ → Option Failure
-  own_part r part at =
-      if is_called r && is_some (part_callee tables k part) then None else own (part_kind k part) (why_part part) at
-
-  abbrev pub own_member : Role → Option StaticType → ℕ → ℕ → Option Failure
-  own_member r None m at = None
-  own_member r (Some t) m at = own_part r (part_of tables.names k t m) at
-
-  abbrev pub own_called : Option Callee → Option (List StaticType) → ℕ → Option Failure
-  own_called None ts at = failure_at Mismatch at
-  own_called (Some d) ts at = own (ts >>= λ us. call_kind k.classes d.takes d.gives us) (why_call d.gives) at
-
-  abbrev pub own_super : NameScope → ℕ → Option ℕ → Option StaticType → ℕ → Option Failure
-  own_super p m None u at = failure_at (why_super k p.this m) at
-  own_super p m (Some d) u at = own u (why_call (kind_at k d)) at
-
-  abbrev pub own_make : Found → Option Callee → Option StaticType → ℕ → Option Failure
-  own_make f None u at = failure_at (why_make f) at
-  own_make f (Some d) u at = own u Mismatch at
-
-  -- no function stands where a handler is wanted
-  abbrev pub lacks_handler : NameScope → List BoardParameter → Trees → Bool
-  lacks_handler p (board.Handler ∷ ps) (more a rest) = not (is_routine tables k p a) || lacks_handler p ps rest
-  lacks_handler p (_ ∷ ps) (more a rest) = lacks_handler p ps rest
-  lacks_handler p _ _ = false
-
-  abbrev pub own_board : NameScope → List BoardParameter → Trees → ℕ → Option Failure
-  own_board p takes args at =
-      unless (not (lacks_handler p takes args)) BadHandler at then unless (are_given tables k p takes args) Mismatch at
+  abbrev pub unsuited : NameScope → Role → Tree → ℕ → Option Failure
+  unsuited p r e at = if suits p r e then None else untyped tables k p r e at
 
   -- a name that is declared in a block
   abbrev pub own_local : NameScope → ℕ → ℕ → Option Failure
@@ -116,60 +127,35 @@ module _ (tables : Tables) (names : Naming) (k : Known) where
   own_bound p (Some a) absent at = None
   own_bound p (Some a) (present e) at = unless (fits k (type_of tables k p Given e) (kind_of names a)) Mismatch at
 
-  abbrev pub waives : Option Annotation → Tree → Bool
-  waives None e = is_alone e
-  waives (Some a) e = false
-
-  abbrev pub is_list : Option StaticType → Bool
-  is_list None = false
-  is_list (Some t) = is_array t
-
-  -- a node whose parts have no failure has no type
-  abbrev pub own_type : NameScope → Role → Tree → ℕ → Option Failure
-  own_type p r e at = own (type_of tables k p r e) Mismatch at
-
   -- a test isn't boolean
   abbrev pub own_test : NameScope → Tree → ℕ → Option Failure
   own_test p test at = unless (is_boolean (type_of tables k p Free test)) Mismatch at
 
   abbrev mutual
     pub failure : NameScope → Role → Tree → Option Failure
-    failure p r (This at) = own (this_kind p.this) (why_this p.this) at
-    failure p r (Name at x) = own_name r p (finds tables k p x) at
-    failure p r (Unary at op a) = failure p Free a then own_type p r (Unary at op a) at
-    failure p r (Binary at op a b) = failure p Free a then failure p Free b then own_type p r (Binary at op a b) at
-    failure p r (Both at a b) = failure p Free a then failure p Free b then own_type p r (Both at a b) at
-    failure p r (Either at a b) = failure p Free a then failure p Free b then own_type p r (Either at a b) at
+    failure p r (This at) = untyped tables k p r (This at) at
+    failure p r (Name at x) = unsuited p r (Name at x) at
+    failure p r (Unary at op a) = failure p Free a then untyped tables k p r (Unary at op a) at
+    failure p r (Binary at op a b) = failure p Free a then failure p Free b then untyped tables k p r (Binary at op a b) at
+    failure p r (Both at a b) = failure p Free a then failure p Free b then untyped tables k p r (Both at a b) at
+    failure p r (Either at a b) = failure p Free a then failure p Free b then untyped tables k p r (Either at a b) at
     failure p r (Choice at c a b) =
-        failure p Free c then failure p Free a then failure p Free b then own_type p r (Choice at c a b) at
-    failure p r (Set at op x e) = failure p Free x then failure p Given e then own_type p r (Set at op x e) at
-    failure p r (Bump at x by late) = failure p Free x then own_type p r (Bump at x by late) at
-    failure p r (Member at a m) = elim (constant_of tables k p a m) [
-      | Some z ↦ None
-      | None ↦ elim (board_callee tables k p (Member at a m)) [
-        | Some call ↦ unless (is_called r) BadHandler at
-        | None ↦ failure p Free a then own_member r (type_of tables k p Free a) m at
-      ]
-    ]
-    failure p r (Item at a i) = failure p Free a then failure p Free i then own_type p r (Item at a i) at
-    failure p r (Items at none) = own_type p r (Items at none) at
+        failure p Free c then failure p Free a then failure p Free b then untyped tables k p r (Choice at c a b) at
+    failure p r (Set at op x e) = failure p Free x then failure p Given e then untyped tables k p r (Set at op x e) at
+    failure p r (Bump at x by late) = failure p Free x then untyped tables k p r (Bump at x by late) at
+    failure p r (Member at a m) =
+        (if is_of_board tables k p (Member at a m) then None else failure p Free a) then unsuited p r (Member at a m) at
+    failure p r (Item at a i) = failure p Free a then failure p Free i then untyped tables k p r (Item at a i) at
+    failure p r (Items at none) = untyped tables k p r (Items at none) at
     failure p r (Items at (more e rest)) =
-        failure p Free e then failures p [] rest then own_type p r (Items at (more e rest)) at
+        failure p Free e then failures p [] rest then untyped tables k p r (Items at (more e rest)) at
     failure p r (Call at f args) = elim (board_callee tables k p f) [
-      | Some call ↦ failures p (row_of call).takes args then own_board p (row_of call).takes args at
-      | None ↦ failure p Called f then failures p [] args
-          then own_called (callee_of tables k p f) (types_of tables k p args) at
+      | Some call ↦ failures p (row_of call).takes args then untyped tables k p r (Call at f args) at
+      | None ↦ failure p Called f then failures p [] args then untyped tables k p r (Call at f args) at
     ]
-    failure p r (SuperCall at None args) = failures p [] args then failure_at Mismatch at
-    failure p r (SuperCall at (Some m) args) =
-        failures p [] args
-        then own_super p m (super_method tables k p.this m) (type_of tables k p r (SuperCall at (Some m) args)) at
-    failure p r (Make at x args) =
-        failures p [] args
-        then own_make (finds tables k p x) (made tables k (finds tables k p x))
-        (type_of tables k p r (Make at x args)) at
-    failure p r (Handler at body) =
-        handler_failure p body then unless (is_served r && serves_itself p body) BadHandler at
+    failure p r (SuperCall at m args) = failures p [] args then untyped tables k p r (SuperCall at m args) at
+    failure p r (Make at x args) = failures p [] args then untyped tables k p r (Make at x args) at
+    failure p r (Handler at body) = handler_failure p body then unsuited p r (Handler at body) at
     failure p r _ = None
 
     -- of arguments, by what their places do with them

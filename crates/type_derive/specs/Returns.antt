@@ -25,6 +25,11 @@ abbrev pub parameter_locals : Naming → List Parameter → List Local
 parameter_locals names [] = []
 parameter_locals names (p ∷ rest) = local p.name (written_kind names p.shape) false ∷ parameter_locals names rest
 
+-- the result of a function without a written one: nothing where no value is returned
+abbrev pub answered : Option (Option StaticType) → Option StaticType
+answered None = Some nothing
+answered (Some kind) = kind
+
 -- where a function's statements begin: its parameters are known, and its own block begins behind them
 abbrev pub within : List Local → This → Option StaticType → Bool → NameScope
 within params this gives library =
@@ -80,8 +85,3 @@ module _ (tables : Tables) (names : Naming) (k : Known) where
     pub all_returned : NameScope → Statements → Option (Option StaticType)
     all_returned p done = None
     all_returned p (also s rest) = option_or (returned p s) (all_returned (after p s) rest)
-
-  -- the result of a function without a written one: nothing where no value is returned
-  abbrev pub answered : Option (Option StaticType) → Option StaticType
-  answered None = Some nothing
-  answered (Some kind) = kind

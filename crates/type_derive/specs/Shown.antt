@@ -15,7 +15,7 @@ use Rattle.sts_scope.specs.Rules.{takes_at, kind_at, maker_takes_of, goes, all_g
 use Rattle.type_derive.specs.declared.roles.Role.TheVariants.{Given}
 use Rattle.type_derive.specs.declared.callees.Called.{Called}
 use Rattle.type_derive.specs.declared.callees.Called.TheVariants as c
-use Rattle.type_derive.specs.Typing.{Callee, callee, type_of, given_to, is_routine, is_drawing, board_kind, are_given}
+use Rattle.type_derive.specs.Typing.{Callee, callee, type_of, fits, is_routine, is_drawing, board_kind, are_given}
 use Rattle.type_derive.specs.declared.boards.BoardTakes as rust
 
 abbrev pub shown : Known → Called → Callee
@@ -61,7 +61,7 @@ typed_go_to classes t (Some ss) = all_go_to classes t ss
 
 -- an argument of a call of the board fits
 abbrev pub fits_board : Tables → Known → NameScope → BoardParameter → Tree → Bool
-fits_board tables k p (board.Of u) a = given_to tables k (type_of tables k p Given a) u
+fits_board tables k p (board.Of u) a = fits k (type_of tables k p Given a) (Some (board_kind u))
 fits_board tables k p board.Handler a = is_routine tables k p a
 fits_board tables k p board.Drawing a = is_drawing tables a
 

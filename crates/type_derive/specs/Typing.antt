@@ -51,6 +51,10 @@ board_kind (t.Object c) = object c
 board_kind (t.ListOf u) = nothing
 board_kind t.NullType = null
 
+abbrev pub fits : Known → Option StaticType → Option StaticType → Bool
+fits k (Some s) (Some t) = goes k.classes s t
+fits k _ _ = false
+
 -- what the place of the next argument does with it
 abbrev pub role_of : List BoardParameter → Role
 role_of (board.Handler ∷ ps) = Served
@@ -143,10 +147,6 @@ module _ (tables : Tables) (k : Known) where
   is_routine p (Handler at body) = true
   is_routine p _ = false
 
-  abbrev pub given_to : Option StaticType → ValueType → Bool
-  given_to None u = false
-  given_to (Some s) u = goes k.classes s (board_kind u)
-
   abbrev pub called : Option Callee → Option (List StaticType) → Option StaticType
   called d ts = d >>= λ c. ts >>= λ us. call_kind k.classes c.takes c.gives us
 
@@ -209,7 +209,7 @@ module _ (tables : Tables) (k : Known) where
     -- as many arguments as a call of the board takes, each of which fits
     pub are_given : NameScope → List BoardParameter → Trees → Bool
     are_given p [] none = true
-    are_given p (board.Of u ∷ ps) (more a rest) = given_to (type_of p Given a) u && are_given p ps rest
+    are_given p (board.Of u ∷ ps) (more a rest) = fits k (type_of p Given a) (Some (board_kind u)) && are_given p ps rest
     are_given p (board.Handler ∷ ps) (more a rest) = is_routine p a && are_given p ps rest
     are_given p (board.Drawing ∷ ps) (more a rest) = is_drawing tables a && are_given p ps rest
     are_given p _ _ = false

@@ -1,8 +1,9 @@
 -- How many functions stand in what is made of trees without a failure: as many as the trees have.
 use Rattle.std.proofs.Common.{◌≡◌, ℕ, ℤ, suc, ◌+◌, refl, sym, ap, ◌∙◌, subst, Bool, true, false, Option, Some, None, List, [], ◌∷◌, ◌++◌, length, arith, length-append}
-use Rattle.std.specs.Prelude.{not, if◌then◌else◌, ◌&&◌}
+use Rattle.std.specs.Prelude.{not, is_some, if◌then◌else◌, ◌||◌}
 use Rattle.sts_base.specs.declared.tables.Tables.{Tables}
-use Rattle.sts_base.specs.declared.refused.Code.TheVariants.{Mismatch, BadHandler, UnknownName, NeedsType}
+use Rattle.sts_base.specs.declared.refused.Code.{Code}
+use Rattle.sts_base.specs.declared.refused.Code.TheVariants.{Mismatch, UnknownName, NeedsType}
 use Rattle.sts_syntax.specs.Annotations.{Annotation}
 use Rattle.sts_syntax.specs.declared.typed.Spot.TheVariants.{Local}
 use Rattle.sts_syntax.specs.declared.typed.Callee.TheVariants as c
@@ -22,12 +23,12 @@ use Rattle.sts_scope.specs.Entries.{Naming, written_kind}
 use Rattle.sts_scope.specs.Globals.{is_dollar}
 use Rattle.sts_scope.specs.Headings.{written_failure}
 use Rattle.sts_scope.specs.Places.{NameScope, inner}
-use Rattle.sts_scope.specs.Rules.{takes_at, maker_takes_of}
+use Rattle.sts_scope.specs.Rules.{takes_at, kind_at, maker_takes_of}
 use Rattle.type_derive.specs.declared.roles.Role.{Role}
 use Rattle.type_derive.specs.declared.roles.Role.TheVariants.{Free, Given, Called, Served}
-use Rattle.type_derive.specs.Typing.{Callee, space, constant_of, board_callee, callee_of, super_method, type_of, types_of, are_given, is_routine, is_drawing, spelling, finds, given_to}
+use Rattle.type_derive.specs.Typing.{◌>>=◌, Callee, callee, fits, board_kind, called, space, constant_of, board_callee, callee_of, super_method, type_of, types_of, are_given, is_routine, is_drawing, spelling, finds}
 use Rattle.type_derive.specs.Returns.{is_alone, bound, after, after_first, looped, items_of}
-use Rattle.type_derive.specs.Nodes.{failure, failures, handler_failure, own_member, own_called, own_super, own_board, is_called, is_served, serves_itself, kind_role, initial_failure, optional_failure, test_failure, declaration_failure, declarations_failure, statement_failure, first_failure, statements_failure, own_local, own_bound, is_list}
+use Rattle.type_derive.specs.Nodes.{failure, failures, handler_failure, unsuited, cause_of, is_of_board, kind_role, initial_failure, optional_failure, test_failure, declaration_failure, declarations_failure, statement_failure, first_failure, statements_failure, own_local, own_bound, is_list}
 use Rattle.sts_scope.specs.Handlers.{handlers, handlers_of, optional_handlers, declarations_handlers, statement_handlers, first_handlers, statements_handlers}
 use Rattle.type_derive.specs.Making.{Made}
 use Rattle.type_derive.specs.inner.Filling.{Making, pure, ◌>=>◌, a_local}
@@ -36,7 +37,7 @@ use Rattle.type_derive.specs.Built.{Site, in_block, board_target}
 use Rattle.type_derive.specs.inner.Filled.{amiss, made_tree, made_given, made_items, made_asked, made_call, made_first, made_optional, made_value, made_locals, made_local, made_statement, made_opening, made_statements, noted, type_in, part_in, class_in, member_read, part_target, routine_of, class_found, call_takes, asked_given, drawing, argument_made, next_given, later_given, behind_statement, first_site, in_handler_site, kind_or_nothing}
 use Rattle.typed_laws.specs.Laws.{IsRead}
 use Rattle.typed_laws.proofs.OneNode.{both_true}
-use Rattle.typed_laws.proofs.Typed.{last, first, unless_true}
+use Rattle.typed_laws.proofs.Typed.{Has, last, first, if_true, of_call, call_has, unsuited_has}
 use Rattle.typed_laws.proofs.Names.{bind_some}
 
 abbrev pub Counts : {A : Type 0} → ℕ → Making A → Type 0
@@ -61,12 +62,6 @@ counts_two {A} {B} {C} h j f g make first second = counts_bind h j f (λ x. g >=
 -- the same where the second hangs on the first
 pub counts_then : {A B C : Type 0} (h j : ℕ) (f : Making A) (g : A → Making B) (make : A → B → C) → Counts h f → ((a : A) → Counts j (g a)) → Counts (h + j) (f >=> λ x. g x >=> λ y. pure (make x y))
 counts_then {A} {B} {C} h j f g make first second = counts_bind h j f (λ x. g x >=> λ y. pure (make x y)) first (λ x. counts_one j (g x) (make x) (second x))
-
-not_read : (r : Role) (i : ℕ) → IsRead r → unless (is_called r) BadHandler i ≡ None → ⊥
-not_read Free i q h = cc
-not_read Given i q h = cc
-not_read Called i q h = q
-not_read Served i q h = q
 
 module _ (tables : Tables) (names : Naming) (k : Known) (numbers : Numbering) where
   abbrev mk : Site → Option StaticType → Tree → Making TypedTree
@@ -154,56 +149,46 @@ module _ (tables : Tables) (names : Naming) (k : Known) (numbers : Numbering) wh
   parts4 : (A B C D E : Option Failure) → (A then B then C then D then E) ≡ None → (A ≡ None) × (B ≡ None) × (C ≡ None) × (D ≡ None) × (E ≡ None)
   parts4 A B C D E h = let r = last A (B then C then D then E) h in let (x, y, z, o) = parts3 B C D E r in (first A (B then C then D then E) h, x, y, z, o)
 
-  abbrev member_failure : Site → Role → ℕ → Tree → ℕ → Option ℤ → Option BoardCall → Option Failure
-  member_failure s r i a m z b = elim z [
-    | Some y ↦ None
-    | None ↦ elim b [
-      | Some call ↦ unless (is_called r) BadHandler i
-      | None ↦ bad s Free a then own_member tables names k r (type_of tables k s.place Free a) m i
-    ]
-  ]
-
   constant_plain : (s : Site) (a : Tree) (m : ℕ) (z : ℤ) → constant_of tables k s.place a m ≡ Some z → IsPlain s a
   constant_plain s a m z h = let (sp, q, h1) = bind_some (space tables k s.place a) (λ (x : List ℕ). constant_named x (spelling tables m)) z h in space_plain s a sp q
 
-  member_counts : (s : Site) (r : Role) (i : ℕ) (a : Tree) (m : ℕ) (n : ValueType) (z : Option ℤ) (b : Option BoardCall) → IsRead r → constant_of tables k s.place a m ≡ z → member_failure s r i a m z b ≡ None → (bad s Free a ≡ None → Counts (handlers a) (mk s None a))
+  member_counts : (s : Site) (a : Tree) (m : ℕ) (n : ValueType) (z : Option ℤ) → constant_of tables k s.place a m ≡ z → Counts (handlers a) (mk s None a)
       → Counts (handlers a) (elim z [ Some y ↦ pure (e.Num t.Number y) | None ↦ mk s None a >=> λ x. pure (member_read tables names k numbers n (part_in tables names k numbers s a m) (class_in tables names k numbers s a) m x) ])
-  member_counts s r i a m n (Some y) b read q h f = counts_as 0 (handlers a) (pure (e.Num t.Number y)) (λ m' n'. refl) (sym (constant_plain s a m y q).0)
-  member_counts s r i a m n None (Some call) read q h f = absurd (not_read r i read h)
-  member_counts s r i a m n None None read q h f =
-      counts_one (handlers a) (mk s None a) (λ x. member_read tables names k numbers n (part_in tables names k numbers s a m) (class_in tables names k numbers s a) m x) (f (first (bad s Free a) (own_member tables names k r (type_of tables k s.place Free a) m i) h))
+  member_counts s a m n (Some y) q object = counts_as 0 (handlers a) (pure (e.Num t.Number y)) (λ m' n'. refl) (sym (constant_plain s a m y q).0)
+  member_counts s a m n None q object =
+      counts_one (handlers a) (mk s None a) (λ x. member_read tables names k numbers n (part_in tables names k numbers s a m) (class_in tables names k numbers s a) m x) object
 
-  -- the object of a method that is called
-  object_counts : (s : Site) (i : ℕ) (a : Tree) (m : ℕ) (z : Option ℤ) (b : Option BoardCall) → b ≡ None → constant_of tables k s.place a m ≡ z → member_failure s Called i a m z b ≡ None → (bad s Free a ≡ None → Counts (handlers a) (mk s None a)) → Counts (handlers a) (mk s None a)
-  object_counts s i a m (Some y) b n q h f = let (zero_so, plain) = constant_plain s a m y q in counts_as 0 (handlers a) (mk s None a) (plain None) (sym zero_so)
-  object_counts s i a m None (Some call) n q h f = cc
-  object_counts s i a m None None n q h f = f (first (bad s Free a) (own_member tables names k Called (type_of tables k s.place Free a) m i) h)
+  -- what stands before a dot
+  object_counts : (s : Site) (i : ℕ) (a : Tree) (m : ℕ) (z : Option ℤ) (b : Option BoardCall) → constant_of tables k s.place a m ≡ z → board_callee tables k s.place (Member i a m) ≡ b
+      → (if is_some z || is_some b then None else bad s Free a) ≡ None → (bad s Free a ≡ None → Counts (handlers a) (mk s None a)) → Counts (handlers a) (mk s None a)
+  object_counts s i a m (Some y) b q o h f = let (zero_so, plain) = constant_plain s a m y q in counts_as 0 (handlers a) (mk s None a) (plain None) (sym zero_so)
+  object_counts s i a m None (Some call) q o h f =
+      let (sp, x, h1) = bind_some (space tables k s.place a) (λ (x : List ℕ). call_named x (spelling tables m)) call o in
+      let (zero_so, plain) = space_plain s a sp x in
+      counts_as 0 (handlers a) (mk s None a) (plain None) (sym zero_so)
+  object_counts s i a m None None q o h f = f h
+
+  member_object : (s : Site) (r : Role) (i : ℕ) (a : Tree) (m : ℕ) → bad s r (Member i a m) ≡ None → (bad s Free a ≡ None → Counts (handlers a) (mk s None a)) → Counts (handlers a) (mk s None a)
+  member_object s r i a m h f =
+      object_counts s i a m (constant_of tables k s.place a m) (board_callee tables k s.place (Member i a m)) refl refl
+      (first (if is_of_board tables k s.place (Member i a m) then None else bad s Free a) _ h) f
 
   abbrev call_failure : Site → ℕ → Tree → Trees → Option BoardCall → Option Failure
-  call_failure s i f args (Some call) = failures tables names k s.place (row_of call).takes args then own_board tables names k s.place (row_of call).takes args i
-  call_failure s i f args None = bad s Called f then failures tables names k s.place [] args then own_called tables names k (callee_of tables k s.place f) (types_of tables k s.place args) i
+  call_failure s i f args b = of_call tables names k s.place i f args b
 
   abbrev call_made : Site → ValueType → Tree → Trees → Option BoardCall → Making TypedTree
   call_made s n f args (Some call) = made_asked tables names k numbers s (row_of call).takes args >=> λ xs. pure (e.Call n (board_target call (row_of call).action) xs)
   call_made s n f args None = made_call tables names k numbers s n f (made_given tables names k numbers s (call_takes tables names k numbers s f) args)
 
-  no_callee_of : (d : Option Callee) (ts : Option (List StaticType)) (i : ℕ) → d ≡ None → own_called tables names k d ts i ≡ None → ⊥
-  no_callee_of None ts i q h = cc
-  no_callee_of (Some d) ts i q h = cc
+  no_callee_of : (d : Option Callee) (ts : Option (List StaticType)) → d ≡ None → Has (called tables k d ts) → ⊥
+  no_callee_of None ts q h = let z = h.is in cc
+  no_callee_of (Some d) ts q h = cc
 
   no_callee : (s : Site) (f : Tree) (args : Trees) (i : ℕ) → callee_of tables k s.place f ≡ None → call_failure s i f args None ≡ None → ⊥
-  no_callee s f args i q h =
-      let own_so : Option Failure = own_called tables names k (callee_of tables k s.place f) (types_of tables k s.place args) i in
-      no_callee_of (callee_of tables k s.place f) (types_of tables k s.place args) i q (parts2 (bad s Called f) (failures tables names k s.place [] args) own_so h).2
+  no_callee s f args i q h = no_callee_of (callee_of tables k s.place f) (types_of tables k s.place args) q (call_has tables names k s.place i f args None h)
 
-  given_of_board : (s : Site) (ps : List BoardParameter) (args : Trees) (i : ℕ) → own_board tables names k s.place ps args i ≡ None → are_given tables k s.place ps args ≡ true
-  given_of_board s ps args i h = unless_true (are_given tables k s.place ps args) Mismatch i (last _ (unless (are_given tables k s.place ps args) Mismatch i) h)
-
-  served_read : (r : Role) (serves : Bool) (i : ℕ) → IsRead r → unless (is_served r && serves) BadHandler i ≡ None → ⊥
-  served_read Free serves i read h = cc
-  served_read Given serves i read h = cc
-  served_read Called serves i read h = read
-  served_read Served serves i read h = read
+  no_type : Has {A = StaticType} None → ⊥
+  no_type h = let z = h.is in cc
 
   role_read : (g : Option StaticType) → IsRead (kind_role g)
   role_read None = tt
@@ -223,13 +208,14 @@ module _ (tables : Tables) (names : Naming) (k : Known) (numbers : Numbering) wh
   abbrev u_of : Site → Tree → ValueType
   u_of s list = value_type (kind_or_nothing tables names k numbers (items_of tables names k (type_of tables k s.place Free list)))
 
-  super_counts : (s : Site) (i m : ℕ) (args : Trees) (n : ValueType) (u : Option StaticType) (d : Option ℕ) → (failures tables names k s.place [] args then own_super tables names k s.place m d u i) ≡ None
+  super_counts : (s : Site) (i : ℕ) (args : Trees) (n : ValueType) (code : Code) (d : Option ℕ)
+      → (failures tables names k s.place [] args then own (called tables k (d >>= λ j. Some (callee (takes_at k.entries j) (kind_at k j))) (types_of tables k s.place args)) code i) ≡ None
       → ((takes : List StaticType) → failures tables names k s.place [] args ≡ None → Counts (handlers_of args) (made_given tables names k numbers s takes args))
       → Counts (handlers_of args) (elim d [ None ↦ pure amiss | Some j ↦ made_given tables names k numbers s (takes_at k.entries j) args >=> λ xs. pure (e.SuperCall n (routine_number numbers j) xs) ])
-  super_counts s i m args n u None h given = let z : own_super tables names k s.place m None u i ≡ None = last (failures tables names k s.place [] args) (own_super tables names k s.place m None u i) h in cc
-  super_counts s i m args n u (Some j) h given =
+  super_counts s i args n code None h given = let z : failure_at code i ≡ None = last (failures tables names k s.place [] args) (failure_at code i) h in cc
+  super_counts s i args n code (Some j) h given =
       counts_one (handlers_of args) (made_given tables names k numbers s (takes_at k.entries j) args) (λ xs. e.SuperCall n (routine_number numbers j) xs)
-      (given (takes_at k.entries j) (first (failures tables names k s.place [] args) (own_super tables names k s.place m (Some j) u i) h))
+      (given (takes_at k.entries j) (first (failures tables names k s.place [] args) _ h))
 
   mutual
     pub tree_counts : (s : Site) (r : Role) (g : Option StaticType) (a : Tree) → IsRead r → bad s r a ≡ None → Counts (handlers a) (mk s g a)
@@ -261,7 +247,7 @@ module _ (tables : Tables) (names : Naming) (k : Known) (numbers : Numbering) wh
         (tree_counts s Given (Some (type_in tables names k numbers s x)) a tt ha)
     tree_counts s r g (Bump i x by late) read h = counts_one (handlers x) (mk s None x) (λ y. e.Bump t.Number y by late) (tree_counts s Free None x tt (first (bad s Free x) _ h))
     tree_counts s r g (Member i a m) read h =
-        member_counts s r i a m (noted tables names k numbers s g (Member i a m)) (constant_of tables k s.place a m) (board_callee tables k s.place (Member i a m)) read refl h (λ h'. tree_counts s Free None a tt h')
+        member_counts s a m (noted tables names k numbers s g (Member i a m)) (constant_of tables k s.place a m) refl (member_object s r i a m h (λ h'. tree_counts s Free None a tt h'))
     tree_counts s r g (Item i a j) read h =
         let (ha, hj, ho) = parts2 (bad s Free a) (bad s Free j) _ h in
         counts_two (handlers a) (handlers j) (mk s None a) (mk s None j) (λ x y. e.Item (noted tables names k numbers s g (Item i a j)) x y) (tree_counts s Free None a tt ha) (tree_counts s Free None j tt hj)
@@ -275,13 +261,12 @@ module _ (tables : Tables) (names : Naming) (k : Known) (numbers : Numbering) wh
         (λ takes h'. given_counts s takes args h') (λ ps h' q. asked_counts s ps args h' q)
     tree_counts s r g (SuperCall i None args) read h = let z : failure_at Mismatch i ≡ None = last (failures tables names k s.place [] args) (failure_at Mismatch i) h in cc
     tree_counts s r g (SuperCall i (Some m) args) read h =
-        super_counts s i m args (noted tables names k numbers s g (SuperCall i (Some m) args)) (type_of tables k s.place r (SuperCall i (Some m) args)) (super_method tables k s.place.this m) h (λ takes h'. given_counts s takes args h')
+        super_counts s i args (noted tables names k numbers s g (SuperCall i (Some m) args)) (cause_of tables k s.place r (SuperCall i (Some m) args)) (super_method tables k s.place.this m) h (λ takes h'. given_counts s takes args h')
     tree_counts s r g (Make i x args) read h =
         let class = class_found tables names k numbers (finds tables k s.place x) in
         counts_one (handlers_of args) (made_given tables names k numbers s (maker_takes_of k.classes class) args) (λ xs. e.Make (t.Object class) class xs) (given_counts s (maker_takes_of k.classes class) args (first (failures tables names k s.place [] args) _ h))
     tree_counts s r g (Handler i body) read h =
-        let serves : Bool = serves_itself tables names k s.place body in
-        absurd (served_read r serves i read (last (handler_failure tables names k s.place body) (unless (is_served r && serves) BadHandler i) h))
+        absurd (no_type (unsuited_has tables names k s.place r (Handler i body) i read (last (handler_failure tables names k s.place body) _ h)))
 
     pub given_counts : (s : Site) (takes : List StaticType) (args : Trees) → failures tables names k s.place [] args ≡ None → Counts (handlers_of args) (made_given tables names k numbers s takes args)
     given_counts s takes none h = λ m n. refl
@@ -304,8 +289,8 @@ module _ (tables : Tables) (names : Naming) (k : Known) (numbers : Numbering) wh
         let none_so : handlers f ≡ 0 = board_plain s f call q in
         counts_as (handlers_of args) (handlers f + handlers_of args) (call_made s n f args (Some call))
         (counts_one (handlers_of args) (made_asked tables names k numbers s ps args) (λ xs. e.Call n (board_target call (row_of call).action) xs)
-        (asked ps (first (failures tables names k s.place ps args) (own_board tables names k s.place ps args i) h)
-        (given_of_board s ps args i (last (failures tables names k s.place ps args) (own_board tables names k s.place ps args i) h)))) (omega (arith, none_so))
+        (asked ps (first (failures tables names k s.place ps args) _ h)
+        (if_true (are_given tables k s.place ps args) (board_kind (row_of call).gives) _ i (last (failures tables names k s.place ps args) _ h)))) (omega (arith, none_so))
     call_counts s i (Name j x) args n None q h given asked =
         let (hf, ha, ho) = parts2 (bad s Called (Name j x)) (failures tables names k s.place [] args) _ h in
         counts_as (handlers_of args) (0 + handlers_of args) (call_made s n (Name j x) args None)
@@ -314,7 +299,7 @@ module _ (tables : Tables) (names : Naming) (k : Known) (numbers : Numbering) wh
         let (hf, ha, ho) = parts2 (bad s Called (Member j a m)) (failures tables names k s.place [] args) _ h in
         counts_two (handlers a) (handlers_of args) (mk s None a) (made_given tables names k numbers s (call_takes tables names k numbers s (Member j a m)) args)
         (λ x xs. e.Call n (part_target tables names k numbers (part_in tables names k numbers s a m) (class_in tables names k numbers s a) m) (e.more x xs))
-        (object_counts s j a m (constant_of tables k s.place a m) (board_callee tables k s.place (Member j a m)) q refl hf (λ h'. tree_counts s Free None a tt h')) (given (call_takes tables names k numbers s (Member j a m)) ha)
+        (member_object s Called j a m hf (λ h'. tree_counts s Free None a tt h')) (given (call_takes tables names k numbers s (Member j a m)) ha)
     call_counts s i (Num j n') args n None q h given asked = absurd (no_callee s (Num j n') args i refl h)
     call_counts s i (Text j n') args n None q h given asked = absurd (no_callee s (Text j n') args i refl h)
     call_counts s i (Truth j x) args n None q h given asked = absurd (no_callee s (Truth j x) args i refl h)
@@ -338,7 +323,7 @@ module _ (tables : Tables) (names : Naming) (k : Known) (numbers : Numbering) wh
     asked_counts s ps none h q = λ m n. refl
     asked_counts s [] (more a rest) h q = cc
     asked_counts s (board.Of u ∷ ps) (more a rest) h q =
-        let (given_so, rest_so) = both_true (given_to tables k (type_of tables k s.place Given a) u) (are_given tables k s.place ps rest) q in
+        let (given_so, rest_so) = both_true (fits k (type_of tables k s.place Given a) (Some (board_kind u))) (are_given tables k s.place ps rest) q in
         counts_two (handlers a) (handlers_of rest) (mk s (asked_given (board.Of u ∷ ps)) a) (made_asked tables names k numbers s ps rest) (λ x xs. e.more x xs)
         (tree_counts s Given (asked_given (board.Of u ∷ ps)) a tt (first (bad s Given a) (failures tables names k s.place ps rest) h)) (asked_counts s ps rest (last (bad s Given a) (failures tables names k s.place ps rest) h) rest_so)
     asked_counts s (board.Drawing ∷ ps) (more a rest) h q =
@@ -354,7 +339,7 @@ module _ (tables : Tables) (names : Naming) (k : Known) (numbers : Numbering) wh
     handler_counts s ps (Name i x) h q = λ m n. refl
     handler_counts s ps (Handler i (Does j params gives all arrow)) h q =
         let site' : Site = in_handler_site tables names k numbers s params gives all in
-        let h0 : handler_failure tables names k s.place (Does j params gives all arrow) ≡ None = first (handler_failure tables names k s.place (Does j params gives all arrow)) (unless (serves_itself tables names k s.place (Does j params gives all arrow)) BadHandler i) h in
+        let h0 : handler_failure tables names k s.place (Does j params gives all arrow) ≡ None = first (handler_failure tables names k s.place (Does j params gives all arrow)) (unsuited tables names k s.place Served (Handler i (Does j params gives all arrow)) i) h in
         let (h1, h2, h3) = parts2 _ (written_failure names j gives) (statements_failure tables names k site'.place all) h0 in
         λ m n. ap suc (statements_counts site' all h3 0 (suc n))
     handler_counts s ps (Num i n) h q = cc
@@ -445,7 +430,7 @@ module _ (tables : Tables) (names : Naming) (k : Known) (numbers : Numbering) wh
         (λ q. counts_two U0 J (made_optional tables names k numbers s1 step) (made_statement tables names k numbers (in_block s1) a) (λ y x. e.For l q y x) (optional_counts s1 step hC) (statement_counts (in_block s1) a hD)))) (omega arith) m n
     statement_counts s (ForOf i fixed x list a) h = λ m n.
         let p1 : NameScope = looped tables names k s.place fixed x list in
-        let (hl, ha, hd, ho) = parts3 (bad s Free list) (statement_failure tables names k (inner p1) a) (unless (not (is_dollar tables.names x)) UnknownName i) (unless (is_list tables names k (type_of tables k s.place Free list)) Mismatch i) h in
+        let (hl, ha, hd, ho) = parts3 (bad s Free list) (statement_failure tables names k (inner p1) a) (unless (not (is_dollar tables.names x)) UnknownName i) (unless (is_list (type_of tables k s.place Free list)) Mismatch i) h in
         let u : ValueType = u_of s list in
         let s1 : Site = record { place = inner p1; spots = s.spots ++ Local m ∷ [] } in
         let J : ℕ = statement_handlers a in

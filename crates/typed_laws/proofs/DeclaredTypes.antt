@@ -24,10 +24,10 @@ use Rattle.sts_scope.specs.Lookup.{is_second, inherits_field, base_of}
 use Rattle.sts_scope.specs.Places.{NameScope, inner, outside}
 use Rattle.sts_scope.specs.Rules.{kind_at, is_boolean}
 use Rattle.type_derive.specs.declared.roles.Role.TheVariants.{Free}
-use Rattle.type_derive.specs.Typing.{type_of}
+use Rattle.type_derive.specs.Typing.{fits, type_of}
 use Rattle.type_derive.specs.Returns.{bound, declared, all_declared, parameter_locals, within, returned, all_returned, answered, after, after_first, looped}
 use Rattle.type_derive.specs.Derived.{Source, Stated, global_sources, main_sources, member_sources, item_sources, sources_from, routine_source, declared_source, follows}
-use Rattle.type_derive.specs.Nodes.{fits, statement_failure, first_failure, statements_failure, failure, kind_role, optional_failure, test_failure, is_list, initial_failure, own_bound}
+use Rattle.type_derive.specs.Nodes.{statement_failure, first_failure, statements_failure, failure, kind_role, optional_failure, test_failure, is_list, initial_failure, own_bound}
 use Rattle.type_derive.specs.Passes.{field_failure, globals_failure, main_failure, body_failure, constructor_failure, members_nodes, item_nodes, nodes_failure}
 use Rattle.typed_laws.proofs.Returning.{give_value, gives_value}
 use Rattle.typed_laws.proofs.Typed.{last, first, unless_true, own_has}
@@ -100,7 +100,7 @@ module _ (names : Naming) (k : Known) (tables : Tables) where
         gives_none (inner q) a (gives_first_place (inner p) one ∙ g) (first A U (last Z (A then U) (last T (Z then A then U) (last O (T then Z then A then U) h))))
     gives_none p (ForOf i fixed x list a) g h =
         let q : NameScope = looped tables names k p fixed x list in
-        let T = failure tables names k p Free list in let A = statement_failure tables names k (inner q) a in let D = unless (not (is_dollar tables.names x)) UnknownName i in let U = unless (is_list tables names k (type_of tables k p Free list)) Mismatch i in
+        let T = failure tables names k p Free list in let A = statement_failure tables names k (inner q) a in let D = unless (not (is_dollar tables.names x)) UnknownName i in let U = unless (is_list (type_of tables k p Free list)) Mismatch i in
         gives_none (inner q) a g (first A (D then U) (last T (A then D then U) h))
     gives_none p (Let i fixed each) g h = refl
     gives_none p (Break i) g h = refl
@@ -161,7 +161,7 @@ module _ (names : Naming) (k : Known) (tables : Tables) where
         let q = solved d (routine_source names self (Does i params None all arrow)) s near in
         some_or_none (HasKind d) (kind_at k d) (λ u r. (u, r))
         (λ r. let nothing_given = give_none (within (parameter_locals names params) self (kind_at k d) false) all r h2 in
-        (nothing, q ∙ ap (λ (x : Option (Option StaticType)). answered tables names k x) (return_none (within (parameter_locals names params) self None false) all nothing_given)))
+        (nothing, q ∙ ap (λ (x : Option (Option StaticType)). answered x) (return_none (within (parameter_locals names params) self None false) all nothing_given)))
 
     -- a field and a global
     declared_known : (self : This) (d i x : ℕ) (shape : Option Annotation) (value : OptionalTree) → slice_get sources d ≡ Some (declared_source names self (Declare i x shape value))

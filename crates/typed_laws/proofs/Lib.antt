@@ -7,7 +7,6 @@ mod WholeNodes
 mod FilledParts
 mod Agreeing
 mod BuiltTrees
-mod FailsFor
 pub mod Sites
 pub mod Boards
 mod TreeFacts

@@ -105,7 +105,7 @@ module _ (tables : Tables) (names : Naming) (k : Known) (kinds_proper : (d : ℕ
   params_proper (p ∷ rest) zero u h = written_proper names p.shape u h
   params_proper (p ∷ rest) (suc i) u h = params_proper rest i u h
 
-  answered_proper : (o : Option (Option StaticType)) (u : StaticType) → ((v : StaticType) → o ≡ Some (Some v) → IsProper v) → answered tables names k o ≡ Some u → IsProper u
+  answered_proper : (o : Option (Option StaticType)) (u : StaticType) → ((v : StaticType) → o ≡ Some (Some v) → IsProper v) → answered o ≡ Some u → IsProper u
   answered_proper None u f h = subst IsProper (some_is nothing u h) refl
   answered_proper (Some o) u f h = f u (ap (λ (x : Option StaticType). Some x) h)
 

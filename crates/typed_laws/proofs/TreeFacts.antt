@@ -2,7 +2,6 @@
 use Rattle.std.proofs.Common.{◌≡◌, ℕ, refl, subst, ap, Bool, true, false, ◌&&◌, Option, Some, None, List, [], ◌∷◌}
 use Rattle.std.specs.Prelude.{nat_lt, if◌then◌else◌, unwrap_or}
 use Rattle.std.specs.Option.{option_map, option_and_then}
-use Rattle.sts_base.specs.declared.refused.Code.TheVariants.{BadHandler}
 use Rattle.sts_syntax.specs.Types as t
 use Rattle.sts_syntax.specs.Annotations as s
 use Rattle.sts_syntax.specs.Annotations.{Annotation}
@@ -11,10 +10,9 @@ use Rattle.sts_scope.specs.declared.kinds.StaticType.{StaticType}
 use Rattle.sts_scope.specs.declared.known.This.{This as Self}
 use Rattle.sts_scope.specs.declared.known.This.TheVariants as this
 use Rattle.sts_scope.specs.Kinds.{number, boolean, text, nothing, object, array, array_of, most_brackets, null, empty, same, is_array, takes_null, value_type}
-use Rattle.sts_scope.specs.Failures.{Failure, ◌then◌, unless}
+use Rattle.sts_scope.specs.Failures.{Failure, ◌then◌}
 use Rattle.sts_scope.specs.Places.{hidden}
 use Rattle.sts_scope.specs.Rules.{none_taken, is_nothing, is_boolean}
-use Rattle.type_derive.specs.Nodes.{kind_role, is_called}
 use Rattle.typed_laws.specs.Stands.{is_proper_base, IsProper}
 use Rattle.typed_laws.proofs.OneNode.{if_some, same_is, same_types}
 use Rattle.typed_laws.proofs.Names.{some_is}
@@ -39,10 +37,6 @@ parts2 A B C h = let r = last A (B then C) h in (first A (B then C) h, first B C
 
 pub parts3 : (A B C D : Option Failure) → (A then B then C then D) ≡ None → (A ≡ None) × (B ≡ None) × (C ≡ None) × (D ≡ None)
 parts3 A B C D h = let r = last A (B then C then D) h in let (x, y, z) = parts2 B C D r in (first A (B then C then D) h, x, y, z)
-
-pub not_called : (g : Option StaticType) (at : ℕ) → unless (is_called (kind_role g)) BadHandler at ≡ None → ⊥
-not_called None at h = cc
-not_called (Some v) at h = cc
 
 -- no operator takes `[]`
 and_false : (x : Bool) → (x && false) ≡ true → ⊥

@@ -1,8 +1,8 @@
 -- Parts of trees without a failure are well typed.
 use Rattle.std.proofs.Common.{◌≡◌, ℕ, ℤ, suc, ◌+◌, refl, sym, ap, ◌∙◌, subst, Bool, true, false, ◌&&◌, ◌||◌, Option, Some, None, List, [], ◌∷◌, ◌++◌, inl, inr, arith, append_assoc}
-use Rattle.std.specs.Prelude.{nat_lt, not, pos, if◌then◌else◌, unwrap_or}
+use Rattle.std.specs.Prelude.{nat_lt, not, is_some, pos, if◌then◌else◌, unwrap_or}
 use Rattle.sts_base.specs.declared.tables.Tables.{Tables}
-use Rattle.sts_base.specs.declared.refused.Code.TheVariants.{BadHandler, NeedsType}
+use Rattle.sts_base.specs.declared.refused.Code.{Code}
 use Rattle.sts_syntax.specs.Annotations.{Annotation}
 use Rattle.sts_syntax.specs.declared.typed.Spot.{Spot}
 use Rattle.sts_syntax.specs.declared.typed.Spot.TheVariants.{Local}
@@ -28,15 +28,15 @@ use Rattle.sts_scope.specs.declared.known.Part.TheVariants as part
 use Rattle.sts_scope.specs.declared.known.This.{This as Self}
 use Rattle.sts_scope.specs.declared.known.This.TheVariants as this
 use Rattle.sts_scope.specs.Kinds.{number, boolean, nothing, null, empty, object, array, array_of, most_brackets, item, same, is_array, class_of, takes_null, value_type, value_types}
-use Rattle.sts_scope.specs.Failures.{Failure, ◌then◌, unless, own}
+use Rattle.sts_scope.specs.Failures.{Failure, ◌then◌, failure_at, own}
 use Rattle.sts_scope.specs.Entries.{Naming}
 use Rattle.sts_scope.specs.Places.{NameScope}
-use Rattle.sts_scope.specs.Rules.{kind_at, takes_at, maker_takes_of, part_of, part_kind, part_settable, operate, assign, comparable, below, is_equality, is_arithmetic, is_order, items_type, all_go, all_go_to, goes, serves, none_taken, is_nothing}
+use Rattle.sts_scope.specs.Rules.{name_kind, kind_at, takes_at, maker_takes_of, part_of, part_kind, part_settable, operate, assign, comparable, below, is_equality, is_arithmetic, is_order, items_type, all_go, all_go_to, goes, serves, none_taken, is_nothing}
 use Rattle.type_derive.specs.declared.roles.Role.{Role}
-use Rattle.type_derive.specs.declared.roles.Role.TheVariants.{Free, Given, Called, Served}
-use Rattle.type_derive.specs.Typing.{◌>>=◌, Callee, callee, names_function, board_kind, space, constant_of, board_callee, named_callee, part_callee, callee_of, super_method, made, called, given_to, type_of, types_of, are_given, is_drawing, drawn, spelling, text_at}
+use Rattle.type_derive.specs.declared.roles.Role.TheVariants.{Free, Given, Served}
+use Rattle.type_derive.specs.Typing.{◌>>=◌, Callee, callee, names_function, board_kind, space, constant_of, board_callee, named_callee, part_callee, super_method, made, called, fits, type_of, types_of, are_given, is_drawing, drawn, spelling, text_at}
 use Rattle.type_derive.specs.Returns.{declared, all_declared, after, after_first}
-use Rattle.type_derive.specs.Nodes.{kind_role, is_called, failure, failures, is_list, own_name, own_member, own_called, own_board, fits}
+use Rattle.type_derive.specs.Nodes.{why_named, is_of_board, failure, failures, is_list}
 use Rattle.sts_scope.specs.Handlers.{handlers, handlers_of}
 use Rattle.type_derive.specs.inner.Filling.{Making, pure, ◌>=>◌, a_local}
 use Rattle.sts_scope.specs.Numbers.{Numbering, field_names, slot_names, place_among, routine_number}
@@ -46,13 +46,13 @@ use Rattle.type_derive.specs.Formed.{IsFormed, AreFormed}
 use Rattle.typed_laws.specs.Stands.{IsProper, EachProper, Stands}
 use Rattle.type_derive.specs.Libraries.{taken}
 use Rattle.typed_laws.proofs.OneNode.{both_true, either_true, if_gives, if_some, if_cases, same_types, works, array_type, class_type}
-use Rattle.typed_laws.proofs.Typed.{typed, first, last, unless_true}
+use Rattle.typed_laws.proofs.Typed.{typed, first, of_call, call_type as type_of_call}
 use Rattle.typed_laws.proofs.Makings.{Gives, gives_pure, gives_bind, gives_as, good_free, good_as}
 use Rattle.typed_laws.proofs.Makings.{Good as Built}
 use Rattle.typed_laws.proofs.Names.{called_parts, bind_some, space_valueless, some_is, Real, HasPart, has_part, proper}
 use Rattle.typed_laws.proofs.Sites.{seen, seen_proper, Suits, improper, IsEmptyOr, suits_given, given_goes, empty_is_not_below, nothing_below_empty, IsGood, At}
 use Rattle.typed_laws.proofs.Boards.{are_plain, draw_nothing, serve_nothing, fit_action, gives_plain, takes_plain, action_fits, constant_int32, drawing_int32}
-use Rattle.typed_laws.proofs.TreeFacts.{kind_is, not_called, and_first, empty_same, empty_takes_null, empty_null, empty_number, nothing_is, none_is, hidden_is}
+use Rattle.typed_laws.proofs.TreeFacts.{kind_is, and_first, empty_same, empty_takes_null, empty_null, empty_number, nothing_is, none_is, hidden_is}
 
 module _ (tables : Tables) (names : Naming) (k : Known) (numbers : Numbering) (P : TypedProgram) (st : Stands tables k numbers P) where
   abbrev Good : Setting → List ℕ → ValueType → TypedTree → Type 0
@@ -431,33 +431,24 @@ module _ (tables : Tables) (names : Naming) (k : Known) (numbers : Numbering) (P
   no_value : (s : Site) (a : Tree) (m : ℕ) (z : ℤ) (u : StaticType) → constant_of tables k s.place a m ≡ Some z → ty s Free a ≡ Some u → ⊥
   no_value s a m z u h q = let (sp, r, i) = constant_is s a m z h in let n : None ≡ Some u = sym (space_valueless tables k s.place a sp r) ∙ q in cc
 
-  abbrev member_failure : Site → Role → ℕ → Tree → ℕ → Option ℤ → Option BoardCall → Option Failure
-  member_failure s r i a m z b = elim z [
-    | Some y ↦ None
-    | None ↦ elim b [
-      | Some call ↦ unless (is_called r) BadHandler i
-      | None ↦ bad s Free a then own_member tables names k r (ty s Free a) m i
-    ]
-  ]
+  -- what stands before the dot of a member with a type has no failure
+  object_free : (s : Site) (i : ℕ) (a : Tree) (m : ℕ) (u : StaticType) (z : Option ℤ) (b : Option BoardCall) → constant_of tables k s.place a m ≡ z → board_callee tables k s.place (Member i a m) ≡ b → ty s Free a ≡ Some u
+      → (if is_some z || is_some b then None else bad s Free a) ≡ None → bad s Free a ≡ None
+  object_free s i a m u (Some y) b q o t h = absurd (no_value s a m y u q t)
+  object_free s i a m u None (Some call) q o t h =
+      let (sp, r, j) = bind_some (space tables k s.place a) (λ (x : List ℕ). call_named x (spelling tables m)) call o in
+      let n : None ≡ Some u = sym (space_valueless tables k s.place a sp r) ∙ t in cc
+  object_free s i a m u None None q o t h = h
 
-  -- a member whose value is read has no failure before it
-  read_failure : (s : Site) (g : Option StaticType) (i : ℕ) (a : Tree) (m : ℕ) (b : Option BoardCall) → member_failure s (kind_role g) i a m None b ≡ None → bad s Free a ≡ None
-  read_failure s g i a m (Some call) h = absurd (not_called g i h)
-  read_failure s g i a m None h = first (bad s Free a) (own_member tables names k (kind_role g) (ty s Free a) m i) h
-
-  -- nor has one that is called
-  pub called_failure : (s : Site) (i : ℕ) (a : Tree) (m : ℕ) (u : StaticType) (z : Option ℤ) (b : Option BoardCall) → constant_of tables k s.place a m ≡ z → b ≡ None → ty s Free a ≡ Some u → member_failure s Called i a m z b ≡ None → bad s Free a ≡ None
-  called_failure s i a m u (Some y) b q n t h = absurd (no_value s a m y u q t)
-  called_failure s i a m u None (Some call) q n t h = cc
-  called_failure s i a m u None None q n t h = first (bad s Free a) (own_member tables names k Called (ty s Free a) m i) h
+  pub member_free : (s : Site) (r : Role) (i : ℕ) (a : Tree) (m : ℕ) (u : StaticType) → bad s r (Member i a m) ≡ None → ty s Free a ≡ Some u → bad s Free a ≡ None
+  member_free s r i a m u h t =
+      object_free s i a m u (constant_of tables k s.place a m) (board_callee tables k s.place (Member i a m)) refl refl t (first (if is_of_board tables k s.place (Member i a m) then None else bad s Free a) _ h)
 
   abbrev pub call_failure : Site → ℕ → Tree → Trees → Option BoardCall → Option Failure
-  call_failure s i f args (Some call) = failures tables names k s.place (row_of call).takes args then own_board tables names k s.place (row_of call).takes args i
-  call_failure s i f args None = bad s Called f then failures tables names k s.place [] args then own_called tables names k (callee_of tables k s.place f) (types_of tables k s.place args) i
+  call_failure s i f args b = of_call tables names k s.place i f args b
 
   abbrev pub call_type : Site → Tree → Trees → Option BoardCall → Option StaticType
-  call_type s f args (Some call) = if are_given tables k s.place (row_of call).takes args then Some (board_kind (row_of call).gives) else None
-  call_type s f args None = called tables k (callee_of tables k s.place f) (types_of tables k s.place args)
+  call_type s f args b = type_of_call tables names k s.place f args b
 
   abbrev pub call_made : Site → ValueType → Tree → Trees → Option BoardCall → Making TypedTree
   call_made s n f args (Some call) = made_asked tables names k numbers s (row_of call).takes args >=> λ xs. pure (e.Call n (board_target call (row_of call).action) xs)
@@ -501,16 +492,19 @@ module _ (tables : Tables) (names : Naming) (k : Known) (numbers : Numbering) (P
   plain_serves found.Unknown s r h = cc
 
   -- where a handler is wanted and it has no failure
-  pub served_so : (p : NameScope) (f : Found) (at : ℕ) → names_function tables k f ≡ true → own_name tables names k Served p f at ≡ None → serves k f ≡ true
-  served_so p (found.Function d) at h bad =
-      unless_true (serves k (found.Function d)) BadHandler at (last (own (kind_at k d) NeedsType at) (unless (serves k (found.Function d)) BadHandler at) bad)
+  pub serves_true : (b : Bool) (code : Code) (at : ℕ) → (if b then None else failure_at code at) ≡ None → b ≡ true
+  serves_true true code at h = refl
+  serves_true false code at h = cc
+
+  pub served_so : (p : NameScope) (f : Found) (at : ℕ) → names_function tables k f ≡ true → (if serves k f then None else own (name_kind k p f) (why_named k Served f) at) ≡ None → serves k f ≡ true
+  served_so p (found.Function d) at h bad = serves_true (serves k (found.Function d)) (why_named k Served (found.Function d)) at bad
   served_so p (found.Local i) at h bad = cc
   served_so p (found.Global i) at h bad = cc
   served_so p (found.Class i) at h bad = cc
   served_so p found.Captured at h bad = cc
   served_so p found.Unknown at h bad = cc
 
-  pub given_to_is : (o : Option StaticType) (u : ValueType) → given_to tables k o u ≡ true → (v : StaticType) × (o ≡ Some v) × (goes k.classes v (board_kind u) ≡ true)
+  pub given_to_is : (o : Option StaticType) (u : ValueType) → fits k o (Some (board_kind u)) ≡ true → (v : StaticType) × (o ≡ Some v) × (goes k.classes v (board_kind u) ≡ true)
   given_to_is None u h = cc
   given_to_is (Some v) u h = (v, refl, h)
 
@@ -540,7 +534,7 @@ module _ (tables : Tables) (names : Naming) (k : Known) (numbers : Numbering) (P
 
   -- what a member gives, where its object is well typed
   abbrev FreeTyped : Setting → List ℕ → Site → Tree → Type 0
-  FreeTyped S known s a = (v : StaticType) → bad s Free a ≡ None → ty s Free a ≡ Some v → Gives P (Good S known (value_type v)) (handlers a) (mk s None a)
+  FreeTyped S known s a = (v : StaticType) → ty s Free a ≡ Some v → Gives P (Good S known (value_type v)) (handlers a) (mk s None a)
 
   abbrev pub ArgumentsTyped : Setting → List ℕ → Site → Trees → Type 0
   ArgumentsTyped S known s args = (takes us : List StaticType) → EachProper takes → failures tables names k s.place [] args ≡ None → types_of tables k s.place args ≡ Some us → all_go k.classes us takes ≡ true
@@ -551,17 +545,17 @@ module _ (tables : Tables) (names : Naming) (k : Known) (numbers : Numbering) (P
       → Gives P (Asked S known ps) (handlers_of args) (made_asked tables names k numbers s ps args)
 
   -- a member, which may be a constant of the board
-  pub member : (S : Setting) (known : List ℕ) (s : Site) (g : Option StaticType) (i : ℕ) (a : Tree) (m : ℕ) (u : StaticType) (n : ValueType) (z : Option ℤ) (b : Option BoardCall) → Stand S known s → IsFormed a → constant_of tables k s.place a m ≡ z
-      → member_failure s (kind_role g) i a m z b ≡ None → elim z [ Some y ↦ Some number | None ↦ ty s Free a >>= λ v. part_kind k (part_of tables.names k v m) ] ≡ Some u → n ≡ value_type u → IsProper u → FreeTyped S known s a
+  pub member : (S : Setting) (known : List ℕ) (s : Site) (g : Option StaticType) (a : Tree) (m : ℕ) (u : StaticType) (n : ValueType) (z : Option ℤ) → Stand S known s → IsFormed a → constant_of tables k s.place a m ≡ z
+      → elim z [ Some y ↦ Some number | None ↦ ty s Free a >>= λ v. part_kind k (part_of tables.names k v m) ] ≡ Some u → n ≡ value_type u → IsProper u → FreeTyped S known s a
       → Gives P (Good S known (value_type (seen g u))) (handlers a)
       (elim z [ Some y ↦ pure (e.Num t.Number y) | None ↦ mk s None a >=> λ x. pure (member_read tables names k numbers n (part_in tables names k numbers s a m) (class_in tables names k numbers s a) m x) ])
-  member S known s g i a m u n (Some y) b at f c' h q same_n p free =
+  member S known s g a m u n (Some y) at f c' q same_n p free =
       let (sp, r, int) = constant_is s a m y c' in
       seen_as S known g u 0 (handlers a) (pure (e.Num t.Number y)) p (gives_pure P (Good S known (value_type u)) (e.Num t.Number y) ((refl, int), ap (λ (x : StaticType). value_type x) (some_is number u q))) (constant_handlers s a m y c')
-  member S known s g i a m u n None b at f c' h q same_n p free =
+  member S known s g a m u n None at f c' q same_n p free =
       let (v, r, q1) = bind_some (ty s Free a) (λ v. part_kind k (part_of tables.names k v m)) u q in
       seen_as S known g u (handlers a) (handlers a) (mk s None a >=> λ x. pure (member_read tables names k numbers n (part_in tables names k numbers s a m) (class_in tables names k numbers s a) m x)) p
-      (read_made S known s a m (handlers a) v u n (Good S known (value_type u)) (free v (read_failure s g i a m b h) r) r same_n (λ x l. read_good S known v u m x (part_of tables.names k v m) l (has_part k tables.names v m) q1)) refl
+      (read_made S known s a m (handlers a) v u n (Good S known (value_type u)) (free v r) r same_n (λ x l. read_good S known v u m x (part_of tables.names k v m) l (has_part k tables.names v m) q1)) refl
 
   -- a member that may be set is a field
   field_target : (S : Setting) (known : List ℕ) (v u : StaticType) (m : ℕ) (x : TypedTree) (f : Part) → part_settable f ≡ true → Good S known (value_type v) x → HasPart k v m f → part_kind k f ≡ Some u
@@ -577,15 +571,15 @@ module _ (tables : Tables) (names : Naming) (k : Known) (numbers : Numbering) (P
   part_may None v m q h = cc
   part_may (Some y) v m q h = subst (λ (l : StaticType). part_settable (part_of tables.names k l m) ≡ true) (some_is y v q) h
 
-  pub member_target : (S : Setting) (known : List ℕ) (s : Site) (i : ℕ) (a : Tree) (m : ℕ) (u : StaticType) (n : ValueType) (z : Option ℤ) (b : Option BoardCall) → constant_of tables k s.place a m ≡ z
-      → member_failure s Free i a m z b ≡ None → elim z [ Some y ↦ Some number | None ↦ ty s Free a >>= λ v. part_kind k (part_of tables.names k v m) ] ≡ Some u → n ≡ value_type u
+  pub member_target : (S : Setting) (known : List ℕ) (s : Site) (a : Tree) (m : ℕ) (u : StaticType) (n : ValueType) (z : Option ℤ) → constant_of tables k s.place a m ≡ z
+      → elim z [ Some y ↦ Some number | None ↦ ty s Free a >>= λ v. part_kind k (part_of tables.names k v m) ] ≡ Some u → n ≡ value_type u
       → elim z [ Some y ↦ false | None ↦ elim (ty s Free a) [ None ↦ false | Some y ↦ part_settable (part_of tables.names k y m) ] ] ≡ true → FreeTyped S known s a
       → Gives P (λ l. IsTarget P S known l × (w.type_of l ≡ value_type u)) (handlers a)
       (elim z [ Some y ↦ pure (e.Num t.Number y) | None ↦ mk s None a >=> λ x. pure (member_read tables names k numbers n (part_in tables names k numbers s a m) (class_in tables names k numbers s a) m x) ])
-  member_target S known s i a m u n (Some y) b c' h q same_n may free = cc
-  member_target S known s i a m u n None b c' h q same_n may free =
+  member_target S known s a m u n (Some y) c' q same_n may free = cc
+  member_target S known s a m u n None c' q same_n may free =
       let (v, r, q1) = bind_some (ty s Free a) (λ v. part_kind k (part_of tables.names k v m)) u q in
-      read_made S known s a m (handlers a) v u n (λ l. IsTarget P S known l × (w.type_of l ≡ value_type u)) (free v (read_failure s None i a m b h) r) r same_n
+      read_made S known s a m (handlers a) v u n (λ l. IsTarget P S known l × (w.type_of l ≡ value_type u)) (free v r) r same_n
       (λ x l. field_target S known v u m x (part_of tables.names k v m) (part_may (ty s Free a) v m r may) l (has_part k tables.names v m) q1)
 
   pub super : (S : Setting) (known : List ℕ) (s : Site) (g : Option StaticType) (m : ℕ) (args : Trees) (u : StaticType) (n : ValueType) (d : Option ℕ) → Stand S known s → AreFormed args → super_method tables k s.place.this m ≡ d
@@ -616,7 +610,7 @@ module _ (tables : Tables) (names : Naming) (k : Known) (numbers : Numbering) (P
       let none_before : 0 ≡ handlers c' = board_handlers s c' b is in
       seen_as S known g u (handlers_of args + 0) (handlers c' + handlers_of args) (call_made s n c' args (Some b)) p
       (gives_bind P (Asked S known ps) Q (handlers_of args) 0 (made_asked tables names k numbers s ps args) (λ xs. pure (e.Call n (board_target b (row_of b).action) xs))
-      (asked ps (first (failures tables names k s.place ps args) (own_board tables names k s.place ps args i) h) are (takes_plain b))
+      (asked ps (first (failures tables names k s.place ps args) _ h) are (takes_plain b))
       (λ xs qs. gives_pure P Q (e.Call n (board_target b (row_of b).action) xs) (board_good S known b (row_of b).action n xs refl (action_fits b) result qs, same_n)))
       (omega (arith, none_before))
 
@@ -643,7 +637,7 @@ module _ (tables : Tables) (names : Naming) (k : Known) (numbers : Numbering) (P
       let at_v : G v (part_takes tables names k numbers (part_of tables.names k v m)) = subst (λ (l : List StaticType). G v l) (sym takes_so) base in
       subst (λ (y : StaticType). G y (part_takes tables names k numbers (part_of tables.names k y m))) (sym kind) at_v
 
-  pub list_is : (o : Option StaticType) → is_list tables names k o ≡ true → (u : StaticType) × (o ≡ Some u) × (is_array u ≡ true)
+  pub list_is : (o : Option StaticType) → is_list o ≡ true → (u : StaticType) × (o ≡ Some u) × (is_array u ≡ true)
   list_is None h = cc
   list_is (Some u) h = (u, refl, h)
 

@@ -24,7 +24,7 @@ use Rattle.sts_scope.specs.declared.kinds.StaticType.{StaticType}
 use Rattle.sts_scope.specs.declared.known.Known.{Known}
 use Rattle.sts_scope.specs.declared.known.Found.{Found}
 use Rattle.sts_scope.specs.Kinds.{number, boolean, text, nothing, null, empty, item, same, is_array, value_type, value_types}
-use Rattle.sts_scope.specs.Failures.{Failure, ◌then◌, unless, own}
+use Rattle.sts_scope.specs.Failures.{Failure, ◌then◌, failure_at, unless, own}
 use Rattle.sts_scope.specs.Entries.{Naming, kind_of}
 use Rattle.sts_scope.specs.Places.{NameScope, inner}
 use Rattle.sts_scope.specs.Headings.{type_name_failure, type_failure, written_failure}
@@ -32,10 +32,10 @@ use Rattle.sts_scope.specs.Globals.{is_dollar}
 use Rattle.sts_scope.specs.Rules.{maker_takes_of, part_of, operate, prefix, joined, choose, assign, counted, element, items_type, all_go, all_go_to, goes, is_nothing, is_boolean}
 use Rattle.type_derive.specs.declared.roles.Role.{Role}
 use Rattle.type_derive.specs.declared.roles.Role.TheVariants.{Free, Given, Called, Served}
-use Rattle.type_derive.specs.Typing.{◌>>=◌, board_kind, finds, constant_of, board_callee, named_callee, part_callee, callee_of, super_method, made, given_to, type_of, types_of, are_given, settable, is_routine, is_drawing}
+use Rattle.type_derive.specs.Typing.{◌>>=◌, board_kind, finds, constant_of, board_callee, named_callee, part_callee, callee_of, super_method, made, fits, type_of, types_of, are_given, settable, is_routine, is_drawing}
 use Rattle.typed_laws.proofs.Returning.{give_value, gives_value}
 use Rattle.type_derive.specs.Returns.{is_alone, bound, all_declared, after, items_of, looped}
-use Rattle.type_derive.specs.Nodes.{kind_role, failure, failures, handler_failure, is_list, initial_failure, optional_failure, test_failure, declaration_failure, declarations_failure, statement_failure, first_failure, statements_failure, own_local, own_bound, own_called, own_super, own_make, fits}
+use Rattle.type_derive.specs.Nodes.{kind_role, failure, failures, handler_failure, is_list, initial_failure, optional_failure, test_failure, declaration_failure, declarations_failure, statement_failure, first_failure, statements_failure, own_local, own_bound}
 use Rattle.sts_scope.specs.Handlers.{handlers, handlers_of, optional_handlers, declarations_handlers, statement_handlers, first_handlers, statements_handlers}
 use Rattle.type_derive.specs.inner.Filling.{Making, pure, ◌>=>◌, a_local}
 use Rattle.sts_scope.specs.Numbers.{Numbering}
@@ -51,7 +51,7 @@ use Rattle.typed_laws.proofs.Names.{called_parts, bind_some, some_is, either_som
 use Rattle.typed_laws.proofs.Sites.{seen, Suits, Wanted, suits_given, given_goes, at_block, at_local, IsGood, At, name_good, this_good}
 use Rattle.typed_laws.proofs.Boards.{are_plain, plain_first, plain_rest}
 use Rattle.typed_laws.proofs.TreeFacts.{nothing_either, noted_is, kind_is, parts2, parts3, settable_is, test_is, alone_is, unless_waived, parts4, kind_proper}
-use Rattle.typed_laws.proofs.TreeParts.{free_proper, given_proper, seen_as, one, two, function_call, set_good, assign_suits, make_good, make_takes, takes_of_found, takes_of_part, takes_of_made, go_parts, go_none, go_more, go_to_parts, items_parts, Asked, called_failure, call_failure, call_type, call_made, plain_serves, served_so, given_to_is, drawing_good, ArgumentsTyped, AskedTyped, member, member_target, super, board_call, member_call, list_is, fits_is, handler_stand, gives_after, Declared, declared_one, declare, first_place, first_gives, declared_more}
+use Rattle.typed_laws.proofs.TreeParts.{free_proper, given_proper, seen_as, one, two, function_call, set_good, assign_suits, make_good, make_takes, takes_of_found, takes_of_part, takes_of_made, go_parts, go_none, go_more, go_to_parts, items_parts, Asked, member_free, call_failure, call_type, call_made, plain_serves, serves_true, served_so, given_to_is, drawing_good, ArgumentsTyped, AskedTyped, member, member_target, super, board_call, member_call, list_is, fits_is, handler_stand, gives_after, Declared, declared_one, declare, first_place, first_gives, declared_more}
 
 module _ (tables : Tables) (names : Naming) (k : Known) (numbers : Numbering) (P : TypedProgram) (st : Stands tables k numbers P) where
   abbrev Good : Setting → List ℕ → ValueType → TypedTree → Type 0
@@ -239,8 +239,8 @@ module _ (tables : Tables) (names : Naming) (k : Known) (numbers : Numbering) (P
         (gives_bind P (λ l. IsTarget P S known l × (w.type_of l ≡ value_type v)) Q (handlers x) 0 (mk s None x) (λ l. pure (e.Bump t.Number l by late)) (target S known s x v at f.0 hx r may)
         (λ l p. gives_pure P Q (e.Bump t.Number l by late) ((p.0, p.1 ∙ nv, refl, f.1), ap (λ (y : StaticType). value_type y) (sym nu)))) (λ l p. p) (omega arith)) refl
     tree S known s g (Member i a m) u at f g' h q z =
-        member tables names k numbers P st S known s g i a m u (noted tables names k numbers s g (Member i a m)) (constant_of tables k s.place a m) (board_callee tables k s.place (Member i a m)) at f refl h q
-        (noted_is (ty s (kind_role g) (Member i a m)) u q) (free_proper tables names k numbers P st S known s at (Member i a m) u q) (λ v h' q'. tree S known s None a v at f tt h' q' tt)
+        member tables names k numbers P st S known s g a m u (noted tables names k numbers s g (Member i a m)) (constant_of tables k s.place a m) at f refl q
+        (noted_is (ty s (kind_role g) (Member i a m)) u q) (free_proper tables names k numbers P st S known s at (Member i a m) u q) (λ v q'. tree S known s None a v at f tt (member_free tables names k numbers P st s (kind_role g) i a m v h q') q' tt)
     tree S known s g (Item i a j) u at f g' h q z =
         let (v, r, q1) = bind_some (ty s Free a) (λ v. ty s Free j >>= λ y. element v y) u q in
         let (y, r1, q2) = bind_some (ty s Free j) (λ y. element v y) u q1 in
@@ -282,13 +282,13 @@ module _ (tables : Tables) (names : Naming) (k : Known) (numbers : Numbering) (P
         (λ takes us p' h' q' go. given S known s takes us args at f.1 p' h' q' go) (λ ps h' q' y. asked S known s ps args at f.1 h' q' y)
     tree S known s g (SuperCall i None args) u at f g' h q z = cc
     tree S known s g (SuperCall i (Some m) args) u at f g' h q z =
-        super tables names k numbers P st S known s g m args u (noted tables names k numbers s g (SuperCall i (Some m) args)) (super_method tables k s.place.this m) at f refl (first (failures tables names k s.place [] args) (own_super tables names k s.place m (super_method tables k s.place.this m) (ty s (kind_role g) (SuperCall i (Some m) args)) i) h) q
+        super tables names k numbers P st S known s g m args u (noted tables names k numbers s g (SuperCall i (Some m) args)) (super_method tables k s.place.this m) at f refl (first (failures tables names k s.place [] args) _ h) q
         (noted_is (ty s (kind_role g) (SuperCall i (Some m) args)) u q) (free_proper tables names k numbers P st S known s at (SuperCall i (Some m) args) u q)
         (λ takes us p' h' q' go. given S known s takes us args at f p' h' q' go)
     tree S known s g (Make i x args) u at f g' h q z =
         let l : Found = finds tables k s.place x in
         let (d, us, is, ts, go, result) = called_parts tables k (made tables k l) (types_of tables k s.place args) u q in
-        let ha : failures tables names k s.place [] args ≡ None = first (failures tables names k s.place [] args) (own_make tables names k l (made tables k l) (ty s (kind_role g) (Make i x args)) i) h in
+        let ha : failures tables names k s.place [] args ≡ None = first (failures tables names k s.place [] args) _ h in
         let class : ℕ = class_found tables names k numbers l in
         let Q : TypedTree → Type 0 = Good S known (value_type u) in
         let G : List StaticType → Type 0 = λ o. Gives P Q (handlers_of args + 0) (made_given tables names k numbers s o args >=> λ xs. pure (e.Make (t.Object class) class xs)) in
@@ -310,8 +310,8 @@ module _ (tables : Tables) (names : Naming) (k : Known) (numbers : Numbering) (P
         let has : Has P S known sp n = subst (λ (y : ValueType). Has P S known sp y) (sym same_n) (name_good tables names k numbers P st S known s (finds tables k s.place x) v at (real k tables s.place x) q) in
         gives_pure P (λ l. IsTarget P S known l × (w.type_of l ≡ value_type v)) (e.Name n sp) (has, same_n)
     target S known s (Member i a m) v at f h q may =
-        member_target tables names k numbers P st S known s i a m v (noted tables names k numbers s None (Member i a m)) (constant_of tables k s.place a m) (board_callee tables k s.place (Member i a m)) refl h q (noted_is (ty s Free (Member i a m)) v q) may
-        (λ v h' q'. tree S known s None a v at f tt h' q' tt)
+        member_target tables names k numbers P st S known s a m v (noted tables names k numbers s None (Member i a m)) (constant_of tables k s.place a m) refl q (noted_is (ty s Free (Member i a m)) v q) may
+        (λ v q'. tree S known s None a v at f tt (member_free tables names k numbers P st s Free i a m v h q') q' tt)
     target S known s (Item i a j) u at f h q may =
         let (v, r, q1) = bind_some (ty s Free a) (λ v. ty s Free j >>= λ y. element v y) u q in
         let (y, r1, q2) = bind_some (ty s Free j) (λ y. element v y) u q1 in
@@ -387,14 +387,14 @@ module _ (tables : Tables) (names : Naming) (k : Known) (numbers : Numbering) (P
     call S known s g i (Name j x) args u n None at f is h q same_n p typed asked' =
         let l : Found = finds tables k s.place x in
         let (d, us, q1, ts, go, result) = called_parts tables k (named_callee tables k l) (types_of tables k s.place args) u q in
-        let (hf, ha, ho) = parts2 (bad s Called (Name j x)) (failures tables names k s.place [] args) (own_called tables names k (named_callee tables k l) (types_of tables k s.place args) i) h in
+        let (hf, ha, ho) = parts2 (bad s Called (Name j x)) (failures tables names k s.place [] args) _ h in
         seen_as tables names k numbers P st S known g u (handlers_of args) (0 + handlers_of args) (made_given tables names k numbers s (routine_takes tables names k numbers l) args >=> λ xs. pure (e.Call n (c.Function (routine_of tables names k numbers l)) xs)) p
         (function_call tables names k numbers P st S known s args l d u n (real k tables s.place x) q1 result same_n (typed d.takes us (takes_of_found tables names k numbers P st l d q1) ha ts go)) (omega arith)
     call S known s g i (Member j a m) args u n None at f is h q same_n p typed asked' =
         let (d, us, q1, ts, go, result) = called_parts tables k (callee_of tables k s.place (Member j a m)) (types_of tables k s.place args) u q in
         let (v, r, q2) = bind_some (ty s Free a) (λ v. part_callee tables k (part_of tables.names k v m)) d q1 in
-        let (hf, ha, ho) = parts2 (bad s Called (Member j a m)) (failures tables names k s.place [] args) (own_called tables names k (callee_of tables k s.place (Member j a m)) (types_of tables k s.place args) i) h in
-        let free_a : bad s Free a ≡ None = called_failure tables names k numbers P st s j a m v (constant_of tables k s.place a m) (board_callee tables k s.place (Member j a m)) refl is r hf in
+        let (hf, ha, ho) = parts2 (bad s Called (Member j a m)) (failures tables names k s.place [] args) _ h in
+        let free_a : bad s Free a ≡ None = member_free tables names k numbers P st s Called j a m v hf r in
         let takes_so : EachProper d.takes = takes_of_part tables names k numbers P st v m (part_of tables.names k v m) d (free_proper tables names k numbers P st S known s at a v r) (has_part k tables.names v m) q2 in
         seen_as tables names k numbers P st S known g u (handlers a + (handlers_of args + 0)) (handlers a + handlers_of args)
         (mk s None a >=> λ x. made_given tables names k numbers s (part_takes tables names k numbers (part_in tables names k numbers s a m)) args
@@ -427,7 +427,7 @@ module _ (tables : Tables) (names : Naming) (k : Known) (numbers : Numbering) (P
     asked S known s (board.Handler ∷ ps) none at f h q y = cc
     asked S known s (board.Drawing ∷ ps) none at f h q y = cc
     asked S known s (board.Of v ∷ ps) (more a rest) at f h q y =
-        let (given_so, rest_so) = both_true (given_to tables k (ty s Given a) v) (are_given tables k s.place ps rest) q in
+        let (given_so, rest_so) = both_true (fits k (ty s Given a) (Some (board_kind v))) (are_given tables k s.place ps rest) q in
         let (l, r, go) = given_to_is tables names k numbers P st (ty s Given a) v given_so in
         let z : StaticType = board_kind v in
         let pz : IsProper z = board_proper v in
@@ -472,8 +472,9 @@ module _ (tables : Tables) (names : Naming) (k : Known) (numbers : Numbering) (P
         let site' : Site = in_handler_site tables names k numbers s [] gives all in
         let bad_inside : Option Failure = written_failure names j gives then statements_failure tables names k site'.place all in
         let serves : Bool = is_nothing site'.place.gives in
-        let h1 : bad_inside ≡ None = first bad_inside (unless serves BadHandler i) h in
-        let served : serves ≡ true = unless_true serves BadHandler i (last bad_inside (unless serves BadHandler i) h) in
+        let own_so : Option Failure = if serves then None else failure_at BadHandler i in
+        let h1 : bad_inside ≡ None = first bad_inside own_so h in
+        let served : serves ≡ true = serves_true tables names k numbers P st serves BadHandler i (last bad_inside own_so h) in
         let h2 : statements_failure tables names k site'.place all ≡ None = last (written_failure names j gives) (statements_failure tables names k site'.place all) h1 in
         let answer_is : (S' : Setting) → S'.routine.gives ≡ t.Nothing → S'.main ≡ false → w.answer S' ≡ Some t.Nothing = λ S' n o.
         ap (λ (x : Bool). let y : Option ValueType = if x then None else Some (if S'.maker then t.Nothing else S'.routine.gives) in y) o
@@ -493,7 +494,7 @@ module _ (tables : Tables) (names : Naming) (k : Known) (numbers : Numbering) (P
         let inner_so : IsInner P r = record { nothing = refl; body = λ S' same o. subst (λ (x : TypedRoutine). w.AreSound P S' made.it false []) same (build S' same o).0; locals = locals_so } in
         ((r, placed.0, refl, refl), refl, (inner_so, inners), ap suc count)
     handler S known s ps (Handler i (Does j (l ∷ ls) gives all arrow)) at f h q =
-        let z : unless false BadHandler i ≡ None = last (handler_failure tables names k s.place (Does j (l ∷ ls) gives all arrow)) (unless false BadHandler i) h in cc
+        let z : failure_at BadHandler i ≡ None = last (handler_failure tables names k s.place (Does j (l ∷ ls) gives all arrow)) (failure_at BadHandler i) h in cc
     handler S known s ps (Num i n) at f h q = cc
     handler S known s ps (Text i n) at f h q = cc
     handler S known s ps (Truth i x) at f h q = cc
@@ -736,8 +737,8 @@ module _ (tables : Tables) (names : Naming) (k : Known) (numbers : Numbering) (P
     statement S known s looped g (ForOf i fixed x list a) m n at f same h answers =
         let R = Sound S known s looped m (ForOf i fixed x list a) in
         let p1 : NameScope = looped_place s fixed x list in
-        let (hl, ha, hd, ho) = parts3 (bad s Free list) (statement_failure tables names k (inner p1) a) (unless (not (is_dollar tables.names x)) UnknownName i) (unless (is_list tables names k (ty s Free list)) Mismatch i) h in
-        let (v, q, av) = list_is tables names k numbers P st (ty s Free list) (unless_true (is_list tables names k (ty s Free list)) Mismatch i ho) in
+        let (hl, ha, hd, ho) = parts3 (bad s Free list) (statement_failure tables names k (inner p1) a) (unless (not (is_dollar tables.names x)) UnknownName i) (unless (is_list (ty s Free list)) Mismatch i) h in
+        let (v, q, av) = list_is tables names k numbers P st (ty s Free list) (unless_true (is_list (ty s Free list)) Mismatch i ho) in
         let pv : IsProper v = free_proper tables names k numbers P st S known s at list v q in
         let items_so : items_of tables names k (ty s Free list) ≡ Some (item v) = ap (λ (o : Option StaticType). items_of tables names k o) q ∙ ap (λ (y : Bool). let o : Option StaticType = if y then Some (item v) else None in o) av in
         let u : ValueType = value_type (unwrap_or (items_of tables names k (ty s Free list)) nothing) in

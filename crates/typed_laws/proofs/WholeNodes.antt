@@ -179,7 +179,7 @@ module _ (tables : Tables) (k : Known) (p : NameScope) where
       let rest = last (initial_failure tables names k p None first') (own_local tables names k p x at then own_bound tables names k p None first' at) h in
       some (bound tables names k p None first') (own_has (bound tables names k p None first') NeedsType at (last (own_local tables names k p x at) (own_bound tables names k p None first' at) rest))
 
-  list_whole : (names : Naming) (o : Option StaticType) → is_list tables names k o ≡ true → IsSome (items_of tables names k o)
+  list_whole : (names : Naming) (o : Option StaticType) → is_list o ≡ true → IsSome (items_of tables names k o)
   list_whole names None h = cc
   list_whole names (Some t) h = ap (λ b. is_some (if b then Some (item t) else None)) h
 
@@ -189,8 +189,8 @@ module _ (tables : Tables) (k : Known) (p : NameScope) where
       let A = failure tables names k p Free list in
       let B = statement_failure tables names k (inner (looped tables names k p fixed x list)) a in
       let C = unless (not (is_dollar tables.names x)) UnknownName at in
-      let D = unless (is_list tables names k o) Mismatch at in
-      list_whole names o (unless_true (is_list tables names k o) Mismatch at (last C D (last B (C then D) (last A (B then C then D) h))))
+      let D = unless (is_list o) Mismatch at in
+      list_whole names o (unless_true (is_list o) Mismatch at (last C D (last B (C then D) (last A (B then C then D) h))))
 
 -- spots
 pub one_more : {A B : Type 0} (xs : List A) (ys : List B) (x : A) (y : B) → length xs ≡ length ys → length (xs ++ x ∷ []) ≡ length (ys ++ y ∷ [])

@@ -1,5 +1,4 @@
 pub mod BuiltTexts
-pub mod Causes
 pub mod Chains
 pub mod Laws
 pub mod LibraryLaws

@@ -3,7 +3,6 @@
 
 mod bases;
 mod built;
-mod causes;
 mod formed;
 mod library;
 mod needs;
@@ -15,7 +14,6 @@ pub use bases::{
     endless_chains_come_back, members_are_of_the_nearest, names_of_the_base_come_first,
 };
 pub use built::texts_without_a_failure_are_built;
-pub use causes::expressions_fail_for_a_part_or_their_cause;
 pub use formed::{spelled_programs_are_formed, typed_programs_name_texts_of_their_trees};
 pub use library::{
     library_functions_have_types, library_is_read, library_leaves_first, prelude_is_library,

@@ -12,5 +12,5 @@ returns-in_ok-returned-in-Returns c =
     let f = naming c.args.context.now in
     let k = c.args.context.now.known.now in
     let all = statements c.in-Returns.all.now in
-    c.answered.ensures t f k ∙ ap (given.answered t f k) (c.in_ok-returned-in-Returns.ensures.value ∙ ap (λ q. given.all_returned t f k q all) c.in_ok-scope-in-Returns.ensures)
+    c.answered.ensures ∙ ap given.answered (c.in_ok-returned-in-Returns.ensures.value ∙ ap (λ q. given.all_returned t f k q all) c.in_ok-scope-in-Returns.ensures)
     ∙ sym (ap (λ o. follows f t k c.args.library (source o)) c.in-Returns.is)

@@ -8,7 +8,7 @@ use Rattle.sts_syntax.specs.declared.trees.Body.{out-Body}
 use Rattle.sts_syntax.specs.declared.trees.Form.TheVariants as f
 use Rattle.sts_syntax.specs.Nesting.{nesting, deepest_tree, statement_nesting, routine_nesting}
 use Rattle.sts_syntax.specs.Trees.{Member, Items, SuperCall, Block, Let, For, Does}
-use Rattle.sts_syntax.specs.Views.{tree, trees, node_tree, statement, statements, declarations, form_statement, optional_expression, optional_annotation, parameters}
+use Rattle.sts_syntax.specs.Views.{tree, trees, node_tree, routine, statement, statements, declarations, form_statement, optional_expression, optional_annotation, parameters}
 use Rattle.sts_scope.specs.Failures.{Finds, ◌then◌, unless, RefusedWith}
 use Rattle.sts_scope.specs.Rules.{operate, element, choose, assign, counted, prefix, is_boolean}
 use Rattle.sts_scope.specs.Rules as rule
@@ -20,12 +20,13 @@ use Rattle.sts_scope.specs.Places.{inner}
 use Rattle.sts_syntax.proofs.Laws.{routine_parts, let_statement}
 use Rattle.type_check.specs.declared.seen.Seen.{Seen}
 use Rattle.type_check.specs.Bounds.{optional_boxed}
-use Rattle.type_check.specs.Seen.{is_test}
+use Rattle.type_check.specs.Seen.{is_served, is_test}
 use Rattle.type_derive.specs.Naming.{naming}
-use Rattle.type_derive.specs.Nodes.{serves_itself, is_served}
+use Rattle.type_derive.specs.Nodes.{serves_itself}
+use Rattle.type_check.proofs.Placed.{handler_own}
 use Rattle.type_check.specs.Contexts.{failure, seen_of, taken, handler_failure, first_failure, optional_failure, statement_failure, after, after_first}
 use Rattle.type_check.proofs.Forms.{unary_is, binary_is, item_is, choice_is, set_is, bump_is, member_is as member_form, items_is, call_is, super_call_is, make_is, handler_is, if_only_is, if_else_is, while_is, do_while_is, for_of_is}
-use Rattle.type_check.proofs.Found.{trees_first, args_step, args_kept, kinds_more, untyped, member_is, member_board, member_found, member_typed, member_constant, board_call_is, other_call_is, call_found, call_typed, make_found, make_typed, super_found, super_typed, items_found, items_typed}
+use Rattle.type_check.proofs.Found.{trees_first, args_step, args_kept, kinds_more, untyped, constant_found, board_found, member_is, member_board, member_found, member_typed, member_constant, board_call_is, other_call_is, call_found, call_typed, make_found, make_typed, super_found, super_typed, items_found, items_typed}
 use Rattle.type_check.proofs.Nested.{tree_within, statement_within, declaration_within}
 use Rattle.type_check.proofs.Steps.{return_is, statements_kept, extends_after, for_is, for_step, for_of_step, returned_step, returned_found, first_extends}
 use Rattle.std.proofs.lemmas.Result.{IfOk-from_err}
@@ -334,15 +335,17 @@ serving-returns-in_err-serves t c = record { found = handed_first c.from_residua
 pub serving-returns-in_err-unless : goal.serving-returns-in_err-unless
 serving-returns-in_err-unless t c =
     let eq = c.serves_there.ensures ∙ ap (λ q. is_served c.args.role && q) c.in_ok-serves.ensures.serves in
+    let own_so = handler_own c.args.context.now (place c.args.scope.now) c.args.role c.args.at (routine c.args.body.now) in
     record {
-      found = past c.from_residual-in_err-unless.result _ _ c.in_ok-serves.ensures.found (subst (λ b. Finds c.from_residual-in_err-unless.result (unless b BadHandler c.args.at)) eq (handed c.from_residual-in_err-unless.result c.in_err-unless.field-0.0 _ c.from_residual-in_err-unless.ensures c.in_err-unless.ensures));
+      found = past c.from_residual-in_err-unless.result _ _ c.in_ok-serves.ensures.found (subst (Finds c.from_residual-in_err-unless.result) (ap (λ b. unless b BadHandler c.args.at) eq ∙ sym own_so) (handed c.from_residual-in_err-unless.result c.in_err-unless.field-0.0 _ c.from_residual-in_err-unless.ensures c.in_err-unless.ensures));
       seen = IfOk-from_err c.from_residual-in_err-unless.result _ c.from_residual-in_err-unless.ensures.0;
     }
 
 pub serving-returns : goal.serving-returns
 serving-returns t c =
     let eq = c.serves_there.ensures ∙ ap (λ q. is_served c.args.role && q) c.in_ok-serves.ensures.serves in
-    record { found = nothing_in _ _ c.in_ok-serves.ensures.found (ap (λ b. unless b BadHandler c.args.at) (sym eq) ∙ c.in_ok-unless.ensures); seen = c.plain.ensures }
+    let own_so = handler_own c.args.context.now (place c.args.scope.now) c.args.role c.args.at (routine c.args.body.now) in
+    record { found = nothing_in _ _ c.in_ok-serves.ensures.found (own_so ∙ ap (λ b. unless b BadHandler c.args.at) (sym eq) ∙ c.in_ok-unless.ensures); seen = c.plain.ensures }
 
 pub kinds_of-expression-requires : goal.kinds_of-expression-requires
 kinds_of-expression-requires t c = (omega (arith, tree_within c.args.all.now c.loop-i.i c.index-all-i.result (omega arith) c.index-all-i.is, c.decreases), tt)
@@ -702,13 +705,30 @@ pub kinds_of-returns-in_err-add-clause-found : goal.kinds_of-returns-in_err-add-
 kinds_of-returns-in_err-add-clause-found t c = grind (arith, common_steps)
 
 pub member-returns-in_err-unless-clause-found : goal.member-returns-in_err-unless-clause-found
-member-returns-in_err-unless-clause-found t c = grind (arith, common_steps)
+member-returns-in_err-unless-clause-found t c =
+    let z = c.args.context.now in
+    let p = place c.args.scope.now in
+    let at = c.args.e.now.at in
+    let a = tree c.args.a.now in
+    let hc : constant_of z.tables.now z.known.now p a c.args.m ≡ None = none_if _ _ (c.is_some.ensures ∙ ap is_some c.constant.ensures) c.if-is_some.false in
+    let hb : is_some (board_callee z.tables.now z.known.now p (Member at a c.args.m)) ≡ true = ap is_some (sym (c.board_callee.ensures ∙ ap (board_callee z.tables.now z.known.now p) c.requires.whole)) ∙ sym c.is_some-2.ensures ∙ c.if-is_some-2.true in
+    let own_so = board_found z p c.args.role at c.args.m a hc hb in
+    handed c.from_residual.result c.in_err-unless.field-0.0 _ c.from_residual.ensures (subst (RefusedWith c.in_err-unless.field-0.0) (ap (λ b. unless b BadHandler at) c.is_called.ensures ∙ sym own_so) c.in_err-unless.ensures)
 
 pub member-returns-then-is_some-2-clause-found : goal.member-returns-then-is_some-2-clause-found
-member-returns-then-is_some-2-clause-found t c = grind (arith, common_steps)
+member-returns-then-is_some-2-clause-found t c =
+    let z = c.args.context.now in
+    let p = place c.args.scope.now in
+    let at = c.args.e.now.at in
+    let a = tree c.args.a.now in
+    let hc : constant_of z.tables.now z.known.now p a c.args.m ≡ None = none_if _ _ (c.is_some.ensures ∙ ap is_some c.constant.ensures) c.if-is_some.false in
+    let hb : is_some (board_callee z.tables.now z.known.now p (Member at a c.args.m)) ≡ true = ap is_some (sym (c.board_callee.ensures ∙ ap (board_callee z.tables.now z.known.now p) c.requires.whole)) ∙ sym c.is_some-2.ensures ∙ c.if-is_some-2.true in
+    let own_so = board_found z p c.args.role at c.args.m a hc hb in
+    own_so ∙ ap (λ b. unless b BadHandler at) (sym c.is_called.ensures) ∙ c.in_ok-unless.ensures
 
 pub member-returns-then-is_some-clause-found : goal.member-returns-then-is_some-clause-found
-member-returns-then-is_some-clause-found t c = grind (arith, common_steps)
+member-returns-then-is_some-clause-found t c =
+    constant_found c.args.context.now (place c.args.scope.now) c.args.role c.args.e.now.at c.args.m (tree c.args.a.now) (sym (c.is_some.ensures ∙ ap is_some c.constant.ensures) ∙ c.if-is_some.true)
 
 pub member-returns-then-is_some-clause-seen : goal.member-returns-then-is_some-clause-seen
 member-returns-then-is_some-clause-seen t c =

@@ -1,21 +1,20 @@
-use Rattle.std.proofs.Common.{◌≡◌, sym, ◌∙◌, subst}
+use Rattle.std.proofs.Common.{◌≡◌, sym, ap, ◌∙◌, subst}
 use Rattle.std.specs.Prelude.{IfOk}
 use Rattle.sts_scope.specs.Failures.{Finds}
 use Rattle.sts_scope.specs.Rules.{name_kind}
-use Rattle.type_derive.specs.Naming.{naming}
-use Rattle.type_derive.specs.Nodes as node
 use Rattle.type_derive.specs.Scopes.{place}
-use Rattle.type_check.specs.Seen.{plain}
+use Rattle.type_check.specs.Seen.{plain, own_name}
+use Rattle.type_check.proofs.Placed.{name_is}
 use Rattle.type_check.proofs.nodes.name_seen.Goals as goal
 
-pub returns-in-Function-clause-found : goal.returns-in-Function-clause-found
-returns-in-Function-clause-found c =
+pub returns-clause-found : goal.returns-clause-found
+returns-clause-found c =
     let z = c.args.context.now in
     let p = place c.args.scope.now in
-    subst (λ f. Finds c.routine_seen.result (node.own_name z.tables.now (naming z) z.known.now c.args.role p f c.args.at)) (sym c.in-Function.is ∙ c.name_found-found.ensures) (c.routine_seen.ensures.found p)
+    subst (Finds c.found_seen.result) (ap (λ f. own_name z.tables.now z.known.now p c.args.role f c.args.at) c.name_found-found.ensures ∙ sym (name_is z p c.args.role c.args.at c.args.x)) c.found_seen.ensures.found
 
-pub returns-in-Function-clause-seen : goal.returns-in-Function-clause-seen
-returns-in-Function-clause-seen c =
+pub returns-clause-seen : goal.returns-clause-seen
+returns-clause-seen c =
     let z = c.args.context.now in
     let p = place c.args.scope.now in
-    subst (λ f. IfOk c.routine_seen.result (λ s. s ≡ plain (name_kind z.known.now p f))) (sym c.in-Function.is ∙ c.name_found-found.ensures) c.routine_seen.ensures.seen
+    subst (λ f. IfOk c.found_seen.result (λ s. s ≡ plain (name_kind z.known.now p f))) c.name_found-found.ensures c.found_seen.ensures.seen
