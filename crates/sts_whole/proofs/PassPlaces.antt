@@ -234,7 +234,7 @@ module _ (P : ℕ → Type 0) where
 
   -- nodes
   module _ (tables : Tables) (names : Naming) (k : Known) where
-    declared_in : (self : This) (a : Declaration) → DeclarationAt P a → In (passes.field_failure tables names k self a)
+    declared_in : (self : This) (a : Declaration) → DeclarationAt P a → In (passes.outside_failure tables names k self a)
     declared_in self (Declare at x shape first) h =
         let p = outside self false None in
         then_in (written_failure names at shape) (initial_failure tables names k p shape first then own_bound tables names k p shape first at) (written_in names at shape h.0 h.1)
@@ -242,7 +242,7 @@ module _ (P : ℕ → Type 0) where
 
     globals_in : (each : Declarations) → DeclarationsAt P each → In (globals_failure tables names k each)
     globals_in ended h = none_in
-    globals_in (next a rest) h = then_in (passes.field_failure tables names k this.Nowhere a) (globals_failure tables names k rest) (declared_in this.Nowhere a h.0) (globals_in rest h.1)
+    globals_in (next a rest) h = then_in (passes.outside_failure tables names k this.Nowhere a) (globals_failure tables names k rest) (declared_in this.Nowhere a h.0) (globals_in rest h.1)
 
     main_in : (a : Statement) → StatementAt P a → In (main_failure tables names k a)
     main_in (Let at fixed each) h = globals_in each h.1
@@ -270,7 +270,7 @@ module _ (P : ℕ → Type 0) where
     members_nodes_in : (c d : ℕ) (ms : List ClassMember) → MembersAt P ms → In (members_nodes tables names k c d ms)
     members_nodes_in c d [] h = none_in
     members_nodes_in c d (Field a ∷ rest) h =
-        then_in (passes.field_failure tables names k (this.Object c) a) (members_nodes tables names k c (suc d) rest) (declared_in (this.Object c) a h.0) (members_nodes_in c (suc d) rest h.1)
+        then_in (passes.outside_failure tables names k (this.Object c) a) (members_nodes tables names k c (suc d) rest) (declared_in (this.Object c) a h.0) (members_nodes_in c (suc d) rest h.1)
     members_nodes_in c d (Method x r ∷ rest) h =
         then_in (body_failure tables names k (this.Object c) (kind_at k d) r) (members_nodes tables names k c (suc d) rest) (body_in (this.Object c) (kind_at k d) r h.0) (members_nodes_in c (suc d) rest h.1)
     members_nodes_in c d (Constructor r ∷ rest) h =

@@ -23,7 +23,7 @@ use Rattle.sts_scope.specs.Rules.{maker_takes_of}
 use Rattle.type_derive.specs.Shown.{typed_go}
 use Rattle.type_derive.specs.Typing.{types_of}
 use Rattle.type_derive.specs.Nodes.{failures, statements_failure}
-use Rattle.type_derive.specs.Passes.{same_kinds, overrides_failure, members_nodes, own_super_call, made_failure, field_failure}
+use Rattle.type_derive.specs.Passes.{same_kinds, overrides_failure, members_nodes, own_super_call, made_failure, outside_failure}
 use Rattle.type_derive.specs.declared.context.Context.{Context}
 use Rattle.type_check.specs.Bounds.{bound_failure}
 use Rattle.type_derive.specs.Naming.{naming}
@@ -49,7 +49,7 @@ unlike (s ∷ ss) [] h = refl
 unlike (s ∷ ss) (t ∷ ts) h = and_false (same s t) ∙ ap (λ b. same s t && b) (unlike ss ts (λ e. h (ap suc e)))
 
 -- a field or a global, by the parts of its declaration
-pub field_is : (c : Context) (self : This) (b : Binding) → field_failure c.tables.now (naming c) c.known.now self (declaration b)
+pub field_is : (c : Context) (self : This) (b : Binding) → outside_failure c.tables.now (naming c) c.known.now self (declaration b)
     ≡ (written_failure (naming c) (out-Binding b).at (optional_annotation (out-Binding b).shape)
     then initial_failure c (outside self false None) (optional_annotation (out-Binding b).shape) (optional_expression (out-Binding b).first)
     then bound_failure (naming c) c.known.now (optional_annotation (out-Binding b).shape) (is_some (out-Binding b).first)
@@ -59,7 +59,7 @@ field_is c self b =
     let shape = optional_annotation (out-Binding b).shape in
     let first = optional_expression (out-Binding b).first in
     let k = initial_kind c.tables.now c.known.now p shape first in
-    ap (field_failure c.tables.now (naming c) c.known.now self) (declaration_parts b)
+    ap (outside_failure c.tables.now (naming c) c.known.now self) (declaration_parts b)
     ∙ ap (λ o. written_failure (naming c) (out-Binding b).at shape then initial_failure c p shape first then o)
     (own_bound_is c p shape first (out-Binding b).at ∙ ap (λ t. bound_failure (naming c) c.known.now shape t k (out-Binding b).at) (present_is (out-Binding b).first))
 

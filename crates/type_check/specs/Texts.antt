@@ -14,7 +14,7 @@ use Rattle.sts_scope.specs.Rules.{kind_at, maker_takes_of}
 use Rattle.sts_scope.specs.Places.{NameScope}
 use Rattle.type_derive.specs.Typing.{types_of}
 use Rattle.type_derive.specs.Nodes.{failures, statements_failure}
-use Rattle.type_derive.specs.Passes.{agrees, field_failure, own_super_call, body_failure, constructor_failure, all_overrides, nodes_failure}
+use Rattle.type_derive.specs.Passes.{agrees, outside_failure, own_super_call, body_failure, constructor_failure, all_overrides, nodes_failure}
 
 -- a member against the bases of its class
 abbrev pub override_failure : Known → ℕ → ℕ → ClassMember → Option Failure
@@ -24,7 +24,7 @@ override_failure k c d (Constructor r) = None
 
 -- the nodes of a member
 abbrev pub member_nodes : Tables → Naming → Known → ℕ → ℕ → ClassMember → Option Failure
-member_nodes tables names k c d (Field a) = field_failure tables names k (this.Object c) a
+member_nodes tables names k c d (Field a) = outside_failure tables names k (this.Object c) a
 member_nodes tables names k c d (Method x r) = body_failure tables names k (this.Object c) (kind_at k d) r
 member_nodes tables names k c d (Constructor r) =
     constructor_failure tables names k (this.Object c) (base_of k.classes c) r

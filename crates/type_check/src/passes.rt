@@ -26,7 +26,7 @@ use type_derive::{Context, Scope, head_of, kind_at, outer_scope, routine_scope};
 
 /// A field or a global, which is declared outside all functions.
 fn check_field(context: &Context, this: This, b: &Binding) -> Result<(), Refused>
-    ensures { Finds result (pass.field_failure context.now.tables.now (naming context.now) context.now.known.now this
+    ensures { Finds result (pass.outside_failure context.now.tables.now (naming context.now) context.now.known.now this
         (declaration b.now)) }
 {
     check_written(context.classes, b.at, &b.shape)?;

@@ -56,14 +56,14 @@ module _ (k : Known) where
 -- The nodes of a text.
 module _ (tables : Tables) (names : Naming) (k : Known) where
   -- a field or a global is declared outside all functions
-  abbrev pub field_failure : This → Declaration → Option Failure
-  field_failure self (Declare at x shape first) =
+  abbrev pub outside_failure : This → Declaration → Option Failure
+  outside_failure self (Declare at x shape first) =
       written_failure names at shape then initial_failure tables names k (outside self false None) shape first
       then own_bound tables names k (outside self false None) shape first at
 
   abbrev pub globals_failure : Declarations → Option Failure
   globals_failure ended = None
-  globals_failure (next a rest) = field_failure this.Nowhere a then globals_failure rest
+  globals_failure (next a rest) = outside_failure this.Nowhere a then globals_failure rest
 
   abbrev pub main_failure : Statement → Option Failure
   main_failure (Let at fixed each) = globals_failure each
@@ -93,7 +93,7 @@ module _ (tables : Tables) (names : Naming) (k : Known) where
 
   abbrev pub members_nodes : ℕ → ℕ → List ClassMember → Option Failure
   members_nodes c d [] = None
-  members_nodes c d (Field a ∷ rest) = field_failure (this.Object c) a then members_nodes c (suc d) rest
+  members_nodes c d (Field a ∷ rest) = outside_failure (this.Object c) a then members_nodes c (suc d) rest
   members_nodes c d (Method x r ∷ rest) = body_failure (this.Object c) (kind_at k d) r then members_nodes c (suc d) rest
   members_nodes c d (Constructor r ∷ rest) =
       constructor_failure (this.Object c) (base_of k.classes c) r then members_nodes c d rest

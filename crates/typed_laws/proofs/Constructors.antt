@@ -34,7 +34,7 @@ use Rattle.typed_laws.proofs.Returning.{give_value}
 use Rattle.type_derive.specs.Returns.{bound}
 use Rattle.type_derive.specs.Derived.{Source, member_sources, follows, declared_source, routine_source}
 use Rattle.type_derive.specs.Nodes.{failures, statements_failure, initial_failure, own_bound}
-use Rattle.type_derive.specs.Passes.{field_failure, body_failure, made_failure, own_super_call, constructor_failure, members_nodes}
+use Rattle.type_derive.specs.Passes.{outside_failure, body_failure, made_failure, own_super_call, constructor_failure, members_nodes}
 use Rattle.type_derive.specs.Formed.{AreFormedMembers, AreFormedIn}
 use Rattle.sts_scope.specs.Handlers.{handlers_of, routine_handlers, declared_handlers, statements_handlers, members_routines, unwritten}
 use Rattle.type_derive.specs.inner.Filling.{pure, ◌>=>◌}
@@ -127,7 +127,7 @@ module _ (tables : Tables) (names : Naming) (k : Known) (numbers : Numbering) (P
     walk_field : (c n d : ℕ) (inits : List TypedStatement) (a : Declaration) (rest : List ClassMember) → Walk c n d inits (Field a ∷ rest) → Walk c (n + declared_handlers a) (suc d) inits rest
     walk_field c n d inits (Declare i x shape first') rest walk =
         let a : Declaration = Declare i x shape first' in
-        let A = field_failure tables names k (this.Object c) a in
+        let A = outside_failure tables names k (this.Object c) a in
         let B = members_nodes tables names k c (suc d) rest in
         let near : k.library ≤ d = walk.behind in
         record {
@@ -189,7 +189,7 @@ module _ (tables : Tables) (names : Naming) (k : Known) (numbers : Numbering) (P
         let a : Declaration = Declare i x shape first' in
         let p : NameScope = outside (this.Object c) false None in
         let s0 : Site = record { place = p; spots = [] } in
-        let A = field_failure tables names k (this.Object c) a in
+        let A = outside_failure tables names k (this.Object c) a in
         let B = members_nodes tables names k c (suc d) rest in
         let wf = written_failure names i shape in
         let jf = initial_failure tables names k p shape first' in
@@ -397,7 +397,7 @@ module _ (tables : Tables) (names : Naming) (k : Known) (numbers : Numbering) (P
             let a : Declaration = Declare i x shape first' in
             let m : ClassMember = Field a in
             let j : ℕ = declared_handlers a in
-            let A = field_failure tables names k (this.Object c) a in
+            let A = outside_failure tables names k (this.Object c) a in
             let B = members_nodes tables names k c (suc d) rest in
             let count : length (initial_made tables names k numbers c n a).routines ≡ j = field_counts tables names k numbers c n a (first A B walk.no_failure) in
             let S0 : Setting = record { routine = record { params = t.Object c ∷ []; locals = []; gives = t.Nothing; all = e.done }; this = true; maker = false; main = false } in

@@ -28,7 +28,7 @@ use Rattle.type_derive.specs.Typing.{fits, type_of}
 use Rattle.type_derive.specs.Returns.{bound, declared, all_declared, parameter_locals, within, returned, all_returned, answered, after, after_first, looped}
 use Rattle.type_derive.specs.Derived.{Source, Stated, global_sources, main_sources, member_sources, item_sources, sources_from, routine_source, declared_source, follows}
 use Rattle.type_derive.specs.Nodes.{statement_failure, first_failure, statements_failure, failure, kind_role, optional_failure, test_failure, is_list, initial_failure, own_bound}
-use Rattle.type_derive.specs.Passes.{field_failure, globals_failure, main_failure, body_failure, constructor_failure, members_nodes, item_nodes, nodes_failure}
+use Rattle.type_derive.specs.Passes.{outside_failure, globals_failure, main_failure, body_failure, constructor_failure, members_nodes, item_nodes, nodes_failure}
 use Rattle.typed_laws.proofs.Returning.{give_value, gives_value}
 use Rattle.typed_laws.proofs.Typed.{last, first, unless_true, own_has}
 use Rattle.typed_laws.proofs.Suffixes.{Suffix, suffix_step, suffix_one, suffix_at, suffix_head}
@@ -165,7 +165,7 @@ module _ (names : Naming) (k : Known) (tables : Tables) where
 
     -- a field and a global
     declared_known : (self : This) (d i x : ℕ) (shape : Option Annotation) (value : OptionalTree) → slice_get sources d ≡ Some (declared_source names self (Declare i x shape value))
-        → k.library ≤ d → field_failure tables names k self (Declare i x shape value) ≡ None → HasKind d
+        → k.library ≤ d → outside_failure tables names k self (Declare i x shape value) ≡ None → HasKind d
     declared_known self d i x (Some a) value s near h =
         let A = written_failure names i (Some a) in
         let B = initial_failure tables names k (outside self false None) (Some a) value in
@@ -186,7 +186,7 @@ module _ (names : Naming) (k : Known) (tables : Tables) where
         let a : Declaration = Declare i x shape value in
         let A = member_failure names k.entries k.classes c d' built (Field a) in
         let B = members_failure names k.entries k.classes c (d' + 1) (built || false) rest in
-        let C = field_failure tables names k (this.Object c) a in
+        let C = outside_failure tables names k (this.Object c) a in
         let D = members_nodes tables names k c (suc d) rest in
         let src : Source = declared_source names (this.Object c) a in (
           declared_known (this.Object c) d i x shape value (suffix_head sources d src (member_sources names c rest ++ ss) s) near (first C D h2),
@@ -218,7 +218,7 @@ module _ (names : Naming) (k : Known) (tables : Tables) where
     typed_globals d fixed ended ss s near h = tt
     typed_globals d fixed (next (Declare i x shape value) rest) ss s near h =
         let a : Declaration = Declare i x shape value in
-        let A = field_failure tables names k this.Nowhere a in
+        let A = outside_failure tables names k this.Nowhere a in
         let B = globals_failure tables names k rest in
         let src : Source = declared_source names this.Nowhere a in (
           declared_known this.Nowhere d i x shape value (suffix_head sources d src (global_sources names rest ++ ss) s) near (first A B h),

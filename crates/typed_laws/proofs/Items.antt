@@ -23,7 +23,7 @@ use Rattle.type_derive.specs.Typing.{types_of}
 use Rattle.type_derive.specs.Returns.{parameter_locals, within}
 use Rattle.type_derive.specs.Derived.{item_sources, main_sources, member_sources, global_sources}
 use Rattle.type_derive.specs.Nodes.{failures, statements_failure, initial_failure, own_bound}
-use Rattle.type_derive.specs.Passes.{field_failure, globals_failure, main_failure, body_failure, made_failure, own_super_call, constructor_failure, members_nodes}
+use Rattle.type_derive.specs.Passes.{outside_failure, globals_failure, main_failure, body_failure, made_failure, own_super_call, constructor_failure, members_nodes}
 use Rattle.sts_scope.specs.Handlers.{handlers_of, optional_handlers, routine_handlers, declared_handlers, declarations_handlers, statement_handlers, statements_handlers, members_routines, unwritten}
 use Rattle.type_derive.specs.inner.Filling.{pure, ◌>=>◌}
 use Rattle.sts_scope.specs.Numbers.{Numbering, global_number, item_numbers, main_numbers, member_numbers, global_places}
@@ -105,7 +105,7 @@ module _ (tables : Tables) (names : Naming) (k : Known) (numbers : Numbering) wh
   pub method_counts : (c n : ℕ) (result : Option StaticType) (r : Routine) → body_failure tables names k (this.Object c) result r ≡ None → length (method_made tables names k numbers c n result r) ≡ suc (routine_handlers r)
   method_counts c n result (Does i params gives all arrow) h = ap suc (statements_counts tables names k numbers (site tables names k numbers (this.Object c) result false 1 params) all h 0 (suc n))
 
-  pub field_counts : (c n : ℕ) (a : Declaration) → field_failure tables names k (this.Object c) a ≡ None → length (initial_made tables names k numbers c n a).routines ≡ declared_handlers a
+  pub field_counts : (c n : ℕ) (a : Declaration) → outside_failure tables names k (this.Object c) a ≡ None → length (initial_made tables names k numbers c n a).routines ≡ declared_handlers a
   field_counts c n (Declare i x shape first') h =
       let p = outside (this.Object c) false None in
       let w = written_failure names i shape in
@@ -191,7 +191,7 @@ module _ (tables : Tables) (names : Naming) (k : Known) (numbers : Numbering) wh
   pub members_counts : (c n d : ℕ) (inits : List TypedStatement) (members : List ClassMember) → members_nodes tables names k c d members ≡ None → length (members_made tables names k numbers c inits n d members) ≡ members_routines members
   members_counts c n d inits [] h = refl
   members_counts c n d inits (Field a ∷ rest) h =
-      let A = field_failure tables names k (this.Object c) a in
+      let A = outside_failure tables names k (this.Object c) a in
       let B = members_nodes tables names k c (suc d) rest in
       length-append (initial_made tables names k numbers c n a).routines (members_made tables names k numbers c inits (n + declared_handlers a) (suc d) rest)
       ∙ ap (λ (i : ℕ). i + length (members_made tables names k numbers c inits (n + declared_handlers a) (suc d) rest)) (field_counts c n a (first A B h))
@@ -232,7 +232,7 @@ module _ (tables : Tables) (names : Naming) (k : Known) (numbers : Numbering) wh
       let w = written_failure names i shape in
       let j = initial_failure tables names k p shape first' in
       let o = own_bound tables names k p shape first' i in
-      let A = field_failure tables names k this.Nowhere (Declare i x shape first') in
+      let A = outside_failure tables names k this.Nowhere (Declare i x shape first') in
       let r = last w (j then o) (first A (globals_failure tables names k rest) h) in
       counts_bind (optional_handlers first') (declarations_handlers rest) (global_made tables names k numbers d (Declare i x shape first')) (λ y. globals_made tables names k numbers (suc d) rest >=> λ ys. pure (y ∷ ys))
       (counts_one (optional_handlers first') (made_first tables names k numbers (record { place = p; spots = [] }) shape first') (global_make d) (initial_counts tables names k numbers (record { place = p; spots = [] }) shape first' i (first j o r) (last j o r)))

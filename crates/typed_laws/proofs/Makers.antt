@@ -14,7 +14,7 @@ use Rattle.sts_scope.specs.Kinds.{value_types}
 use Rattle.sts_scope.specs.Entries.{Naming, classes_in, item_entries, heads_of, class_head, maker_takes, routine_takes}
 use Rattle.sts_scope.specs.Rules.{kind_at, maker_takes_of}
 use Rattle.sts_scope.specs.Rules as rules
-use Rattle.type_derive.specs.Passes.{field_failure, body_failure, members_nodes, item_nodes, nodes_failure}
+use Rattle.type_derive.specs.Passes.{outside_failure, body_failure, members_nodes, item_nodes, nodes_failure}
 use Rattle.sts_scope.specs.Handlers.{routine_handlers, declared_handlers, statement_handlers, members_routines, unwritten, item_routines}
 use Rattle.sts_scope.specs.Numbers.{Numbering, maker_from, makers_from}
 use Rattle.type_derive.specs.inner.FilledPrograms.{function_made, method_made, initial_made, initials, constructor_made, unwritten_made, members_made, class_made, main_made, items_made}
@@ -181,7 +181,7 @@ module _ (tables : Tables) (names : Naming) (k : Known) (numbers : Numbering) (P
       → maker_takes names members ≡ Some takes → HasBody tables names k numbers P (t.Object c ∷ value_types takes) (t.Object c) (maker_from start n members)
   written_body c start n d inits [] takes h placed q = cc
   written_body c start n d inits (Field a ∷ rest) takes h placed q =
-      let A = field_failure tables names k (this.Object c) a in
+      let A = outside_failure tables names k (this.Object c) a in
       let B = members_nodes tables names k c (suc d) rest in
       written_body c start (n + declared_handlers a) (suc d) inits rest takes (last A B h)
       (placed_at tables names k numbers P n (declared_handlers a) (initial_made tables names k numbers c n a).routines (members_made tables names k numbers c inits (n + declared_handlers a) (suc d) rest) (field_counts tables names k numbers c n a (first A B h)) placed) q

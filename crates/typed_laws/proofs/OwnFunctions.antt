@@ -24,7 +24,7 @@ use Rattle.type_derive.specs.inner.FilledTexts.{filled}
 use Rattle.type_derive.specs.Formed.{IsFormedProgram}
 use Rattle.type_derive.specs.Libraries.{OnlyFunctions, library_failure, IsLibrary}
 use Rattle.type_derive.specs.Nodes.{statements_failure}
-use Rattle.type_derive.specs.Passes.{field_failure, body_failure, constructor_failure, members_nodes, item_nodes, nodes_failure}
+use Rattle.type_derive.specs.Passes.{outside_failure, body_failure, constructor_failure, members_nodes, item_nodes, nodes_failure}
 use Rattle.type_derive.specs.inner.FilledPrograms.{function_made, method_made, initial_made, initials, constructor_made, members_made, class_made, main_made, items_made, library_made}
 use Rattle.type_derive.specs.Programs as tp
 use Rattle.type_derive.specs.Typing.{◌>>=◌}
@@ -149,7 +149,7 @@ module _ (tables : Tables) (names : Naming) (k : Known) (numbers : Numbering) (P
   members_agree c n d inits (Field (Declare i x shape first') ∷ rest) later s h placed =
       let a : Declaration = Declare i x shape first' in
       let en : Entry = record { at = i; owner = o.Class c; name = x; sort = sort.Field; takes = [] } in
-      let A = field_failure tables names k (this.Object c) a in
+      let A = outside_failure tables names k (this.Object c) a in
       let B = members_nodes tables names k c (suc d) rest in (
         refl,
         members_agree c (n + declared_handlers a) (suc d) inits rest later (suffix_one k.entries d en (member_entries names c rest ++ later) s) (last A B h)

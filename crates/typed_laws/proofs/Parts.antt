@@ -34,7 +34,7 @@ use Rattle.typed_laws.proofs.Returning.{gives_value}
 use Rattle.type_derive.specs.Returns.{bound}
 use Rattle.type_derive.specs.Derived.{Source, Stated, item_sources, main_sources, global_sources, sources_from, member_sources, declared_source, follows}
 use Rattle.type_derive.specs.Nodes.{initial_failure, own_bound}
-use Rattle.type_derive.specs.Passes.{field_failure, globals_failure, main_failure, item_nodes, nodes_failure}
+use Rattle.type_derive.specs.Passes.{outside_failure, globals_failure, main_failure, item_nodes, nodes_failure}
 use Rattle.type_derive.specs.Formed.{IsFormedDeclaration, IsFormedProgram, IsFormedIn, AreFormedDeclarations}
 use Rattle.sts_scope.specs.Handlers.{optional_handlers, declarations_handlers, statement_handlers, statements_handlers, unwritten, members_routines, item_routines, all_routines}
 use Rattle.type_derive.specs.Making.{Made as Made'}
@@ -110,7 +110,7 @@ module _ (tables : Tables) (names : Naming) (k : Known) (numbers : Numbering) (P
   global_kind d i x (Some a) first' h near = solved d (declared_source names this.Nowhere (Declare i x (Some a) first')) h near
   global_kind d i x None first' h near = solved d (declared_source names this.Nowhere (Declare i x None first')) h near
 
-  global_good : (S : Setting) (fixed : Bool) (d i x : ℕ) (shape : Option Annotation) (first' : OptionalTree) → S.main ≡ true → IsFormedDeclaration (Declare i x shape first') → field_failure tables names k this.Nowhere (Declare i x shape first') ≡ None
+  global_good : (S : Setting) (fixed : Bool) (d i x : ℕ) (shape : Option Annotation) (first' : OptionalTree) → S.main ≡ true → IsFormedDeclaration (Declare i x shape first') → outside_failure tables names k this.Nowhere (Declare i x shape first') ≡ None
       → slice_get sources d ≡ Some (declared_source names this.Nowhere (Declare i x shape first')) → slice_get k.entries d ≡ Some (declared_as i o.Whole x (sort.Global fixed) []) → k.library ≤ d
       → Gives P (λ l. w.MayDeclare P S (Global (global_number k d)) (value_type (unwrap_or (kind_at k d) nothing)) × w.IsInitial P S [] l (value_type (unwrap_or (kind_at k d) nothing))) (optional_handlers first') (made_first tables names k numbers site0 shape first')
   global_good S fixed d i x shape first' main_so formed h src en near =
@@ -140,7 +140,7 @@ module _ (tables : Tables) (names : Naming) (k : Known) (numbers : Numbering) (P
   globals_good S fixed d m n ended ss es main_so formed h src ent near = good_pure P S (GlobalsSound S) declared_names [] m n [] (tt, refl, refl) refl
   globals_good S fixed d m n (next (Declare i x shape first') rest) ss es main_so formed h src ent near =
       let a : Declaration = Declare i x shape first' in
-      let A = field_failure tables names k this.Nowhere a in
+      let A = outside_failure tables names k this.Nowhere a in
       let B = globals_failure tables names k rest in
       let en : Entry = declared_as i o.Whole x (sort.Global fixed) [] in
       let src0 : Source = declared_source names this.Nowhere a in

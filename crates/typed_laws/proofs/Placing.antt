@@ -20,7 +20,7 @@ use Rattle.sts_scope.specs.Kinds.{nothing, value_type, value_types}
 use Rattle.sts_scope.specs.Entries.{Naming, classes_in, item_entries, main_entries, member_entries, global_entries, entries_from}
 use Rattle.sts_scope.specs.Lookup.{base_of}
 use Rattle.sts_scope.specs.Rules.{kind_at}
-use Rattle.type_derive.specs.Passes.{field_failure, body_failure, constructor_failure, members_nodes, item_nodes, nodes_failure}
+use Rattle.type_derive.specs.Passes.{outside_failure, body_failure, constructor_failure, members_nodes, item_nodes, nodes_failure}
 use Rattle.sts_scope.specs.Handlers.{routine_handlers, declared_handlers, unwritten, item_routines}
 use Rattle.sts_scope.specs.Numbers.{Numbering, member_numbers, global_places, main_numbers, item_numbers, numbers_from}
 use Rattle.type_derive.specs.inner.FilledPrograms.{function_made, method_made, initial_made, initials, constructor_made, unwritten_made, members_made, class_made, main_made, items_made}
@@ -100,7 +100,7 @@ module _ (tables : Tables) (names : Naming) (k : Known) (numbers : Numbering) (P
   members_aligned c n d inits [] h placed = tt
   members_aligned c n d inits (Field (Declare i x shape first') ∷ rest) h placed =
       let a : Declaration = Declare i x shape first' in
-      let A = field_failure tables names k (this.Object c) a in
+      let A = outside_failure tables names k (this.Object c) a in
       let B = members_nodes tables names k c (suc d) rest in (
         tt,
         members_aligned c (n + declared_handlers a) (suc d) inits rest (last A B h)

@@ -26,7 +26,7 @@ use Rattle.sts_scope.specs.Places.{NameScope}
 use Rattle.sts_scope.specs.Rules.{kind_at}
 use Rattle.sts_scope.specs.Scopes.{all_names, library_classes, is_global, names_of}
 use Rattle.type_derive.specs.Accepted.{known}
-use Rattle.type_derive.specs.Passes.{field_failure, body_failure, constructor_failure, members_nodes, item_nodes, nodes_failure}
+use Rattle.type_derive.specs.Passes.{outside_failure, body_failure, constructor_failure, members_nodes, item_nodes, nodes_failure}
 use Rattle.type_derive.specs.Returns.{parameter_locals, within}
 use Rattle.type_derive.specs.Typing.{finds, super_method}
 use Rattle.typed_laws.specs.WholePrograms.{IsAcceptedWith, HasItsPlace, DeclarationsHaveTypes, NamesAreMembers, IsDeclaredSo, NumbersAreThere, ParametersHaveTypes, BeginsAbove, AreWholeMembers, IsWholeItem, IsWholeText}
@@ -71,7 +71,7 @@ module _ (tables : Tables) (names : Naming) (k : Known) where
   whole_members c d d' built (Field a ∷ rest) h g =
       let A = member_failure names k.entries k.classes c d' built (Field a) in
       let B = members_failure names k.entries k.classes c (d' + 1) (built || false) rest in
-      let C = field_failure tables names k (this.Object c) a in
+      let C = outside_failure tables names k (this.Object c) a in
       let D = members_nodes tables names k c (suc d) rest in
       whole_members c (suc d) (d' + 1) (built || false) rest (last A B h) (last C D g)
   whole_members c d d' built (Method x (Does i params gives all arrow) ∷ rest) h g =
