@@ -11,7 +11,7 @@ use Rattle.sts_syntax.specs.TypedTrees.{TypedProgram}
 use Rattle.sts_syntax.specs.Weights.{routines_weight}
 use Rattle.sts_scope.specs.declared.kinds.StaticType.{StaticType}
 use Rattle.type_derive.specs.Accepted.{AreDerived, IsAccepted, text_failure, typed}
-use Rattle.type_derive.specs.inner.FilledTexts.{filled}
+use Rattle.type_derive.specs.inner.FilledTexts.{filled_program}
 use Rattle.type_derive.specs.Libraries.{IsLibrary}
 use Rattle.type_derive.specs.Formed.{TextsBelow}
 use Rattle.sts_prelude.specs.inner.Library as l
@@ -45,7 +45,7 @@ line_end zero d h = (omega arith, (omega arith, tt))
 line_end (suc n) d h = absurd (omega (arith, h))
 
 abbrev IsLight : Tables → Program → Program → Type 0
-IsLight tables library text = (kinds : List (Option StaticType)) → AreDerived tables library text kinds → routines_weight (take library_size (filled tables library text kinds).functions) ≤ 600
+IsLight tables library text = (kinds : List (Option StaticType)) → AreDerived tables library text kinds → routines_weight (take library_size (filled_program tables library text kinds).functions) ≤ 600
 
 abbrev IsLibraryBefore : Tables → Program → Program → Type 0
 IsLibraryBefore tables library text = (kinds : List (Option StaticType)) → AreDerived tables library text kinds → IsLibrary tables library text kinds
@@ -69,7 +69,7 @@ buildable laws text tables P h =
     let sound = laws.well_typed tables L h.program P (program_formed tables text h.tokens h.program b.read.tokens h.spelled) before accepted in
     let limits : Option TypedProgram → Option Failure = λ z. z >>= λ p. limits_failure tables.texts p in
     let none : text_failure tables L h.program accepted.0 ≡ None = first_none (text_failure tables L h.program accepted.0) (limits (typed tables L h.program accepted.0)) accepted.2 in
-    let is : P ≡ filled tables L h.program accepted.0 = same_Some P (filled tables L h.program accepted.0) (sym accepted.3 ∙ laws.built tables L h.program accepted.0 accepted.1 (before accepted.0 accepted.1) none) in (
+    let is : P ≡ filled_program tables L h.program accepted.0 = same_Some P (filled_program tables L h.program accepted.0) (sym accepted.3 ∙ laws.built tables L h.program accepted.0 accepted.1 (before accepted.0 accepted.1) none) in (
       record {
         typed = sound.0;
         limits = sound.1;

@@ -19,7 +19,7 @@ use Rattle.sts_scope.specs.Scopes.{all_names, library_classes, heading_refusal}
 use Rattle.type_derive.specs.Passes.{all_overrides, nodes_failure}
 use Rattle.type_derive.specs.Limits.{limits_failure}
 use Rattle.type_derive.specs.Accepted.{known}
-use Rattle.type_derive.specs.inner.FilledTexts.{filled, filled_refusal, IsFilled}
+use Rattle.type_derive.specs.inner.FilledTexts.{filled_program, filled_refusal, IsFilled}
 use Rattle.type_derive.specs.Solved.{IsSolved}
 use Rattle.type_derive.proofs.Laws.{types_exist}
 use Rattle.text_headings.specs.Standing.{IsTextDeclared}
@@ -34,7 +34,7 @@ module _ (tables : Tables) (library text : Program) where
       let (kinds, w) = types_exist tables library text in
       let k : Known = known library text kinds in
       let nodes : Option Failure = all_overrides k (all_names library text) (library_classes library text) k.library text then nodes_failure tables (all_names library text) k (library_classes library text) k.library text in
-      (kinds, w, ap (λ x. (x then nodes) then limits_failure tables.texts (filled tables library text kinds)) h)
+      (kinds, w, ap (λ x. (x then nodes) then limits_failure tables.texts (filled_program tables library text kinds)) h)
   heading_refused r.NoMemory h = tt
 
   module _ (d : Declared) (s : IsSolved tables library text d) where
@@ -52,7 +52,7 @@ module _ (tables : Tables) (library text : Program) where
     found = type_failure tables names d.known d.first_class text
 
     abbrev limits : Option Failure
-    limits = limits_failure tables.texts (filled tables library text d.known.kinds)
+    limits = limits_failure tables.texts (filled_program tables library text d.known.kinds)
 
     found_is : type_failure tables (all_names library text) k (library_classes library text) text ≡ found
     found_is =
@@ -71,12 +71,12 @@ module _ (tables : Tables) (library text : Program) where
     pub counts_refused : heading_refusal tables.names library text ≡ None → found ≡ None → (why : Refused) → RefusedWith why (unless (counts_fit d.known) OverLimit 0) → RefusesTrees why tables library text
     counts_refused h none (r.Program code at) f =
         let n = numbering (library ++ text) in
-        let over = over_limit tables (all_names library text) k n tables.texts (filled tables library text d.known.kinds) refl refl (record { code = code; at = at })
+        let over = over_limit tables (all_names library text) k n tables.texts (filled_program tables library text d.known.kinds) refl refl (record { code = code; at = at })
         (ap (λ x. unless (counts_fit x) OverLimit 0) (sym s.known_is) ∙ f) in
         (d.known.kinds, s.derived, refusal_is h ∙ ap (λ x. x then limits) none ∙ over)
     counts_refused h none r.NoMemory f = tt
 
-    module _ (h : heading_refusal tables.names library text ≡ None) (none : found ≡ None) (p : TypedProgram) (is : p ≡ filled tables library text d.known.kinds) where
+    module _ (h : heading_refusal tables.names library text ≡ None) (none : found ≡ None) (p : TypedProgram) (is : p ≡ filled_program tables library text d.known.kinds) where
       rest_is : filled_refusal tables library text d.known.kinds ≡ limits_failure tables.texts p
       rest_is = refusal_is h ∙ ap (λ x. x then limits) none ∙ ap (limits_failure tables.texts) (sym is)
 

@@ -10,7 +10,7 @@ use Rattle.type_derive.specs.Accepted.{AreDerived, IsAccepted, IsRefused, text_f
 use Rattle.type_derive.specs.Derived.{TypeTable}
 use Rattle.type_derive.specs.Libraries.{IsLibrary}
 use Rattle.type_derive.specs.Limits.{limits_failure}
-use Rattle.type_derive.specs.inner.FilledTexts.{filled, filled_refusal, IsFilled, IsUnfilled}
+use Rattle.type_derive.specs.inner.FilledTexts.{filled_program, filled_refusal, IsFilled, IsUnfilled}
 use Rattle.typed_laws.specs.BuiltTexts.{TextsAreBuilt, RefusalsAreFound}
 use Rattle.typed_laws.specs.LibraryLaws.{first, PreludeIsLibrary, LibraryLeavesFirst}
 use Rattle.sts_whole.specs.Accepting.{ReadsText}
@@ -40,7 +40,7 @@ filled_typed leaves prelude built found = record {
   accepted = λ text tables library tokens program P read h.
       let (kinds, derived, none, is) = h in
       let ok = library_before leaves prelude text tables library tokens read program kinds derived in
-      let no_failure : text_failure tables library program kinds ≡ None = first_none (text_failure tables library program kinds) (limits_failure tables.texts (filled tables library program kinds)) none in
+      let no_failure : text_failure tables library program kinds ≡ None = first_none (text_failure tables library program kinds) (limits_failure tables.texts (filled_program tables library program kinds)) none in
       (kinds, derived, found tables library program kinds derived ok ∙ none, built tables library program kinds derived ok no_failure ∙ ap (λ (p : TypedProgram). Some p) (sym is));
   refused = λ text tables library tokens program f read h.
       let (kinds, derived, is) = h in

@@ -17,7 +17,7 @@ use Rattle.sts_grammar.specs.ReadUnits.{read_program}
 use Rattle.sts_grammar.specs.Texts.{source, BeginsToken}
 use Rattle.sts_grammar.specs.Units.{IsProgram}
 use Rattle.type_derive.specs.Accepted.{AreDerived, DerivedTypesExist}
-use Rattle.type_derive.specs.inner.FilledTexts.{filled, filled_refusal}
+use Rattle.type_derive.specs.inner.FilledTexts.{filled_program, filled_refusal}
 use Rattle.sts_whole.specs.Checking.{FilledIsTyped}
 use Rattle.sts_whole.specs.Accepting.{ReadsText, Accepts, IsRefusedFor}
 use Rattle.sts_lexer.specs.Laws.{SomeReading}
@@ -65,8 +65,8 @@ module _ (reading : ProgramIsRead) (types : DerivedTypesExist) (typed_so : Fille
       by_refusal : (kinds : List (Option StaticType)) → AreDerived tables library program kinds → (found : Option Failure) → filled_refusal tables library program kinds ≡ found → Answer
       by_refusal kinds derived None e =
           inl (
-            filled tables library program kinds,
-            record { library = library; tokens = tokens; read = read; shallow = shallow; program = program; spelled = spelled; accepted = typed_so.accepted text tables library tokens program (filled tables library program kinds) read (kinds, derived, e, refl) },
+            filled_program tables library program kinds,
+            record { library = library; tokens = tokens; read = read; shallow = shallow; program = program; spelled = spelled; accepted = typed_so.accepted text tables library tokens program (filled_program tables library program kinds) read (kinds, derived, e, refl) },
           )
       by_refusal kinds derived (Some fault) e =
           inr (

@@ -26,7 +26,8 @@ use Rattle.type_derive.specs.Making.{Made}
 use Rattle.type_derive.specs.inner.Filling.{Making, pure, ◌>=>◌}
 use Rattle.sts_scope.specs.Numbers.{place_among, field_names}
 use Rattle.type_derive.specs.inner.FilledPrograms as p
-use Rattle.type_derive.specs.Programs.{◌before◌}
+use Rattle.type_derive.specs.Programs.{◌before◌, outer_site}
+pub use Rattle.type_derive.specs.Programs.{outer_site}
 use Rattle.typed_numbers.specs.Building.{numbering_of}
 use Rattle.sts_whole.specs.declared.build_parts.ClassParts.{ClassParts}
 use Rattle.sts_whole.specs.declared.build_parts.Whole.{Whole}
@@ -85,10 +86,6 @@ onto (a ∷ all) rest = more (typed_tree a) (onto all rest)
 abbrev pub typed_list : List TypedStmt → List TypedStatement
 typed_list [] = []
 typed_list (a ∷ rest) = typed_statement a ∷ typed_list rest
-
--- outside all functions, where no local is in scope
-abbrev pub outer_site : This → b.Site
-outer_site self = record { place = outside self false None; spots = [] }
 
 -- a field's initialiser, and the functions in it
 abbrev pub initial_made : Plan → ℕ → ℕ → Declaration → Made (Option TypedTree)

@@ -7,7 +7,7 @@ ghost use Rattle.sts_syntax.specs.Views.{routine, statement};
 ghost use Rattle.sts_scope.specs.Scopes.{all_names, library_classes};
 ghost use Rattle.sts_scope.specs.Entries as entry;
 ghost use Rattle.type_derive.specs.Accepted as accepted;
-ghost use Rattle.type_derive.specs.inner.FilledTexts.{filled};
+ghost use Rattle.type_derive.specs.inner.FilledTexts.{filled_program};
 ghost use Rattle.sts_scope.specs.Handlers as h;
 ghost use Rattle.type_derive.specs.Solved.{IsSolved};
 ghost use Rattle.sts_scope.specs.Numbers as number;
@@ -315,7 +315,7 @@ fn build_planned(
         ≡ number.numbering (top_levels library.now ++ top_levels text.now) }
     requires first { first_class ≡ library_classes (top_levels library.now) (top_levels text.now) }
     ensures { IfOk result (λ t. typed_program t
-        ≡ filled plan.now.tables.now (top_levels library.now) (top_levels text.now) plan.now.known.now.kinds) }
+        ≡ filled_program plan.now.tables.now (top_levels library.now) (top_levels text.now) plan.now.known.now.kinds) }
 {
     let made = build_program(plan, library, text, first_class)?;
     Ok(made)
@@ -335,7 +335,7 @@ pub fn typed_of(
     requires counts { counts_fit declared.now.known ≡ true }
     requires few { AreFew (program library.now) (program text.now) }
     ensures { IfOk result (λ t. typed_program t
-        ≡ filled tables.now (program library.now) (program text.now) declared.now.known.kinds) }
+        ≡ filled_program tables.now (program library.now) (program text.now) declared.now.known.kinds) }
 {
     let numbers = numbering(alloc, library, text)?;
     let names = names_of(alloc, &declared.known)?;

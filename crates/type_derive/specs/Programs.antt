@@ -166,19 +166,19 @@ module _ (tables : Tables) (names : Naming) (k : Known) (numbers : Numbering) wh
   main_made d a = made_statement tables names k numbers (outer_site this.Nowhere) a
 
   -- what a part of a text adds to the main program, and its functions: the part of the class c, the d-th declaration, the local m and the function n
-  abbrev pub item_made : ℕ → ℕ → ℕ → ℕ → TopLevel → Option (Made (List TypedStatement))
-  item_made c d m n (Class at x base base_at members) =
+  abbrev pub part_made : ℕ → ℕ → ℕ → ℕ → TopLevel → Option (Made (List TypedStatement))
+  part_made c d m n (Class at x base base_at members) =
       class_made c n (suc d) members >>= λ all. Some (record { it = []; locals = []; routines = all })
-  item_made c d m n (Function x r) =
+  part_made c d m n (Function x r) =
       function_made false n (kind_at k d) r >>= λ all. Some (record { it = []; locals = []; routines = all })
-  item_made c d m n (Main a) =
+  part_made c d m n (Main a) =
       main_made d a m n >>= λ x. Some (record { it = x.it ∷ []; locals = x.locals; routines = x.routines })
 
   -- the main program's own statements, and all functions, of the parts of a text
   abbrev pub items_made : ℕ → ℕ → ℕ → ℕ → Program → Option (Made TypedStatements)
   items_made c d m n [] = Some (record { it = e.done; locals = []; routines = [] })
   items_made c d m n (i ∷ rest) =
-      item_made c d m n i
+      part_made c d m n i
       >>= λ x. items_made (c + classes_in i) (d + length (item_entries names c i)) (m + length x.locals)
       (n + item_routines i) rest >>= λ y. Some (record {
         it = x.it before y.it;

@@ -12,7 +12,7 @@ use Rattle.sts_syntax.specs.Weights.{weight}
 use Rattle.sts_syntax.specs.WellTypedPrograms.{IsWellTyped, IsWithinLimits, IsClassWithinLimits, IsProgramWithinLimits}
 use Rattle.sts_scope.specs.declared.kinds.StaticType.{StaticType}
 use Rattle.type_derive.specs.Accepted.{AreDerived, IsAccepted, typed, text_failure}
-use Rattle.type_derive.specs.inner.FilledTexts.{filled}
+use Rattle.type_derive.specs.inner.FilledTexts.{filled_program}
 use Rattle.sts_scope.specs.Failures.{Failure}
 use Rattle.type_derive.specs.Limits.{limits_failure}
 use Rattle.type_derive.specs.Typing.{◌>>=◌}
@@ -70,7 +70,7 @@ pub accepted : (tables : Tables) (library text : Program) (P : TypedProgram) →
     → IsAccepted tables library text P → IsWellTyped P × IsProgramWithinLimits P tables.texts
 accepted tables library text P formed libraries (kinds, derived, no_failure, is) =
     let ok : IsLibrary tables library text kinds = libraries kinds derived in
-    let T : TypedProgram = filled tables library text kinds in
+    let T : TypedProgram = filled_program tables library text kinds in
     let limits : Option TypedProgram → Option Failure = λ z. z >>= λ p. limits_failure tables.texts p in
     let none : text_failure tables library text kinds ≡ None = first (text_failure tables library text kinds) (limits (typed tables library text kinds)) no_failure in
     let built : typed tables library text kinds ≡ Some T = texts_built tables library text kinds derived ok none in

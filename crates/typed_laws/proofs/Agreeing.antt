@@ -1,9 +1,9 @@
 -- What is made is what is filled in, part by part.
-use Rattle.std.proofs.Common.{◌≡◌, ℕ, suc, ◌+◌, refl, sym, ap, ◌∙◌, Option, Some, None, List, [], ◌∷◌, ◌++◌, length}
+use Rattle.std.proofs.Common.{◌≡◌, ℕ, suc, ◌+◌, refl, ap, ◌∙◌, Option, Some, List, ◌∷◌, ◌++◌, length}
 use Rattle.sts_syntax.specs.Types.{ValueType}
-use Rattle.sts_syntax.specs.TypedTrees.{TypedStatements, TypedRoutine}
+use Rattle.sts_syntax.specs.TypedTrees.{TypedStatements}
 use Rattle.type_derive.specs.Typing.{◌>>=◌}
-use Rattle.type_derive.specs.Making.{Made, Making, pure, ◌>=>◌, looked, a_local}
+use Rattle.type_derive.specs.Making.{Made, Making, pure, ◌>=>◌, looked}
 use Rattle.type_derive.specs.Built.{routines_made}
 use Rattle.type_derive.specs.inner.Filling as f
 use Rattle.typed_laws.proofs.FilledParts.{onward}

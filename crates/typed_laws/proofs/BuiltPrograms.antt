@@ -1,6 +1,6 @@
 -- The typed program of a text without a failure is there, and is the one that is filled in.
-use Rattle.std.proofs.Common.{◌≡◌, ◌≤◌, ◌<◌, ℕ, zero, suc, ◌+◌, refl, sym, ap, ◌∙◌, subst, Bool, true, false, ◌||◌, Option, Some, None, List, [], ◌∷◌, ◌++◌, length, arith}
-use Rattle.std.specs.Prelude.{slice_get, IsSome, map, unwrap_or, ◌==◌}
+use Rattle.std.proofs.Common.{◌≡◌, ◌≤◌, ◌<◌, ℕ, suc, ◌+◌, refl, sym, ap, ◌∙◌, subst, Bool, true, false, Option, Some, None, List, [], ◌∷◌, ◌++◌, length, arith}
+use Rattle.std.specs.Prelude.{slice_get, IsSome, map, unwrap_or}
 use Rattle.std.specs.Option.{option_map}
 use Rattle.sts_base.specs.declared.tables.Tables.{Tables}
 use Rattle.sts_base.specs.declared.refused.Code.TheVariants.{Mismatch, NeedsType, UnknownName}
@@ -10,7 +10,7 @@ use Rattle.sts_syntax.specs.Types.{ValueType}
 use Rattle.sts_syntax.specs.TypedTrees as e
 use Rattle.sts_syntax.specs.declared.typed.Spot.TheVariants.{Global}
 use Rattle.sts_syntax.specs.TypedTrees.{TypedTree, TypedTrees, TypedStatement, TypedStatements, TypedDeclaration, TypedRoutine, ClassEntry}
-use Rattle.sts_syntax.specs.Trees.{Parameter, Trees, SuperCall, OptionalTree, absent, present, Statement, Block, Let, IfOnly, IfElse, While, DoWhile, For, ForOf, Return, Break, Continue, Plain, Empty, Statements, also, Declaration, Declare, Declarations, ended, next, Routine, Does}
+use Rattle.sts_syntax.specs.Trees.{Parameter, Trees, SuperCall, OptionalTree, Statement, Block, Let, IfOnly, IfElse, While, DoWhile, For, ForOf, Return, Break, Continue, Plain, Empty, Statements, also, Declaration, Declare, Declarations, ended, next, Routine, Does}
 use Rattle.sts_syntax.specs.Programs.{ClassMember, Field, Method, Constructor, TopLevel, Class, Function, Main, Program}
 use Rattle.sts_scope.specs.declared.kinds.StaticType.{StaticType}
 use Rattle.sts_scope.specs.declared.entries.DeclarationKind.{DeclarationKind}
@@ -22,22 +22,21 @@ use Rattle.sts_scope.specs.declared.known.Known.{Known}
 use Rattle.sts_scope.specs.declared.known.This.{This}
 use Rattle.sts_scope.specs.declared.known.This.TheVariants as this
 use Rattle.sts_scope.specs.Kinds.{nothing, value_type, value_types}
-use Rattle.sts_scope.specs.Entries.{Naming, kind_of, written_kind, classes_in, global_entries, main_entries, member_entries, item_entries, entries_from, parameter_kinds}
-use Rattle.sts_scope.specs.Failures.{Failure, ◌then◌, unless, own}
+use Rattle.sts_scope.specs.Entries.{Naming, kind_of, written_kind, classes_in, member_entries, item_entries, entries_from, parameter_kinds}
+use Rattle.sts_scope.specs.Failures.{Failure, ◌then◌, own}
 use Rattle.sts_scope.specs.Handlers.{unwritten, item_routines, declared_handlers, routine_handlers}
 use Rattle.sts_scope.specs.Headings.{written_failure, type_name_failure}
-use Rattle.sts_scope.specs.Lookup.{base_of, member_number, sort_of}
+use Rattle.sts_scope.specs.Lookup.{base_of, sort_of}
 use Rattle.sts_scope.specs.Numbers.{Numbering, global_number, field_names, slot_names, is_listed, place_among, routine_number, maker_number}
 use Rattle.sts_scope.specs.Places.{NameScope, outside}
 use Rattle.sts_scope.specs.Rules.{kind_at, maker_takes_of, all_go}
 use Rattle.sts_scope.specs.Scopes.{is_global}
-use Rattle.type_derive.specs.Accepted as accepted
 use Rattle.type_derive.specs.Built as b
 use Rattle.type_derive.specs.Built.{Site}
 use Rattle.type_derive.specs.Libraries.{OnlyFunctions, library_failure}
 use Rattle.type_derive.specs.Making.{Made, Making, pure, ◌>=>◌}
-use Rattle.type_derive.specs.Nodes.{failures, initial_failure, own_bound, statement_failure, statements_failure}
-use Rattle.type_derive.specs.Passes.{field_failure, globals_failure, main_failure, body_failure, own_super_call, made_failure, constructor_failure, members_nodes, item_nodes, nodes_failure}
+use Rattle.type_derive.specs.Nodes.{failures, initial_failure, own_bound, statements_failure}
+use Rattle.type_derive.specs.Passes.{outside_failure, globals_failure, main_failure, body_failure, own_super_call, made_failure, constructor_failure, members_nodes, item_nodes, nodes_failure}
 use Rattle.type_derive.specs.Programs as p
 use Rattle.type_derive.specs.Programs.{◌before◌, each_made, outer_site, site}
 use Rattle.type_derive.specs.Returns.{parameter_locals, within, bound}
@@ -46,14 +45,14 @@ use Rattle.type_derive.specs.inner.Filled as f
 use Rattle.type_derive.specs.inner.FilledPrograms as fp
 use Rattle.type_derive.specs.inner.Filling as f'
 use Rattle.typed_laws.specs.WholePrograms.{HasItsType, HasMember, NamesAreMembers}
-use Rattle.typed_laws.proofs.Agreeing.{Agree, agree_bind, agree1, agree2, agree_routines}
+use Rattle.typed_laws.proofs.Agreeing.{Agree, agree1, agree2, agree_routines}
 use Rattle.typed_laws.proofs.BuiltTrees.{there, has_some, mapped, given, initial, statement, statements}
 use Rattle.typed_laws.proofs.FilledParts.{onward}
 use Rattle.typed_laws.proofs.Items.{begins_super, maker_failure, constructor_case}
 use Rattle.typed_laws.proofs.Names.{bind_some, some_is}
 use Rattle.typed_laws.proofs.Searching.{get_within, get_listed, listed_right}
-use Rattle.typed_laws.proofs.Suffixes.{Suffix, suffix_step, suffix_one, suffix_at, suffix_head}
-use Rattle.typed_laws.proofs.Typed.{Has, last, first, some, unless_true, own_has}
+use Rattle.typed_laws.proofs.Suffixes.{Suffix, suffix_step, suffix_one, suffix_head}
+use Rattle.typed_laws.proofs.Typed.{last, first, some, unless_true, own_has}
 use Rattle.typed_laws.proofs.WholeNodes.{parameters_spots}
 
 module _ (tables : Tables) (names : Naming) (k : Known) (numbers : Numbering) where
@@ -84,7 +83,7 @@ module _ (tables : Tables) (names : Naming) (k : Known) (numbers : Numbering) wh
   bound_so q (Some shape) a i h g = some (kind_of names shape) (own_has (kind_of names shape) UnknownName i (last (type_name_failure names shape) (own (kind_of names shape) UnknownName i) h))
   bound_so q None a i h g = some (bound tables names k q None a) (own_has (bound tables names k q None a) NeedsType i g)
 
-  first_so : (self : This) (i x : ℕ) (shape : Option Annotation) (a : OptionalTree) → field_failure tables names k self (Declare i x shape a) ≡ None
+  first_so : (self : This) (i x : ℕ) (shape : Option Annotation) (a : OptionalTree) → outside_failure tables names k self (Declare i x shape a) ≡ None
       → Agree (b.made_value tables names k numbers (outer_site self) (written_kind names shape) a) (f.made_first tables names k numbers (outer_site self) shape a)
   first_so self i x shape a h =
       let q : NameScope = outside self false None in
@@ -93,7 +92,7 @@ module _ (tables : Tables) (names : Naming) (k : Known) (numbers : Numbering) wh
       let C : Option Failure = own_bound tables names k q shape a i in
       initial tables names k numbers (outer_site self) shape a i refl (first A (B then C) h) (first B C (last A (B then C) h)) (bound_so q shape a i (first A (B then C) h) (last B C (last A (B then C) h)))
 
-  initial_so : (c n i x : ℕ) (shape : Option Annotation) (a : OptionalTree) → field_failure tables names k (this.Object c) (Declare i x shape a) ≡ None
+  initial_so : (c n i x : ℕ) (shape : Option Annotation) (a : OptionalTree) → outside_failure tables names k (this.Object c) (Declare i x shape a) ≡ None
       → p.initial_made tables names k numbers c n (Declare i x shape a) ≡ Some (fp.initial_made tables names k numbers c n (Declare i x shape a))
   initial_so c n i x shape a h = first_so (this.Object c) i x shape a h 0 n
 
@@ -162,7 +161,7 @@ module _ (tables : Tables) (names : Naming) (k : Known) (numbers : Numbering) wh
     initials_so c n d (Field (Declare i x shape a) ∷ rest) es s h =
         let D : Declaration = Declare i x shape a in
         let en : Entry = record { at = i; owner = o.Class c; name = x; sort = sort.Field; takes = [] } in
-        let A : Option Failure = field_failure tables names k (this.Object c) D in
+        let A : Option Failure = outside_failure tables names k (this.Object c) D in
         let B : Option Failure = members_nodes tables names k c (suc d) rest in
         let y : Made (Option TypedTree) = fp.initial_made tables names k numbers c n D in
         let xs : List TypedStatement = fp.set_field tables names k numbers c d D y.it in
@@ -182,7 +181,7 @@ module _ (tables : Tables) (names : Naming) (k : Known) (numbers : Numbering) wh
     members_so c inits n d (Field (Declare i x shape a) ∷ rest) es s h =
         let D : Declaration = Declare i x shape a in
         let en : Entry = record { at = i; owner = o.Class c; name = x; sort = sort.Field; takes = [] } in
-        let A : Option Failure = field_failure tables names k (this.Object c) D in
+        let A : Option Failure = outside_failure tables names k (this.Object c) D in
         let B : Option Failure = members_nodes tables names k c (suc d) rest in
         let y : Made (Option TypedTree) = fp.initial_made tables names k numbers c n D in
         let later : Option (List TypedRoutine) = p.members_made tables names k numbers c inits (n + declared_handlers D) (suc d) rest in
@@ -214,7 +213,7 @@ module _ (tables : Tables) (names : Naming) (k : Known) (numbers : Numbering) wh
     globals_so d ended h = λ m n. refl
     globals_so d (next (Declare i x shape a) rest) h =
         let D : Declaration = Declare i x shape a in
-        let A : Option Failure = field_failure tables names k this.Nowhere D in
+        let A : Option Failure = outside_failure tables names k this.Nowhere D in
         let B : Option Failure = globals_failure tables names k rest in
         let M : Option TypedTree → TypedDeclaration = λ y. record { name = Global (global_number k d); first = y } in
         agree2 (λ y ys. y ∷ ys) (p.global_made tables names k numbers d D) (fp.global_made tables names k numbers d D) (p.globals_made tables names k numbers (suc d) rest) (fp.globals_made tables names k numbers (suc d) rest)

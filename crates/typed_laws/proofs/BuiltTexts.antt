@@ -1,5 +1,5 @@
 -- A text without a failure of headings, overriding methods and nodes is built; and each text has the failure that is found where its program is filled in.
-use Rattle.std.proofs.Common.{◌≡◌, ◌≤◌, refl, sym, ap, ◌∙◌, Option, Some, None, List, [], ◌∷◌, ◌++◌, length, ℕ, ◌+◌, arith}
+use Rattle.std.proofs.Common.{◌≡◌, refl, sym, ap, ◌∙◌, Option, Some, None, List, [], ◌∷◌, ◌++◌, length, ℕ, ◌+◌, arith}
 use Rattle.std.specs.Prelude.{slice_get}
 use Rattle.std.specs.Option.{option_map}
 use Rattle.sts_base.specs.declared.tables.Tables.{Tables}
@@ -13,7 +13,7 @@ use Rattle.sts_scope.specs.Failures.{Failure, ◌then◌}
 use Rattle.sts_scope.specs.Handlers.{all_routines}
 use Rattle.sts_scope.specs.Numbers.{Numbering, numbering}
 use Rattle.sts_scope.specs.Scopes.{all_names, library_classes}
-use Rattle.type_derive.specs.Accepted.{AreDerived, known, main_routine, typed, text_failure, refusal}
+use Rattle.type_derive.specs.Accepted.{AreDerived, known, main_routine, typed, text_failure}
 use Rattle.type_derive.specs.Derived.{TypeTable}
 use Rattle.type_derive.specs.Libraries.{IsLibrary}
 use Rattle.type_derive.specs.Limits.{limits_failure}
@@ -21,7 +21,7 @@ use Rattle.type_derive.specs.Making.{Made}
 use Rattle.type_derive.specs.Programs as p
 use Rattle.type_derive.specs.Typing.{◌>>=◌}
 use Rattle.type_derive.specs.inner.FilledPrograms as fp
-use Rattle.type_derive.specs.inner.FilledTexts.{filled, filled_refusal}
+use Rattle.type_derive.specs.inner.FilledTexts.{filled_program}
 use Rattle.typed_laws.specs.BuiltTexts.{TextsAreBuilt, RefusalsAreFound}
 use Rattle.typed_laws.specs.WholePrograms.{IsAcceptedWith, HasItsType}
 use Rattle.typed_laws.proofs.BuiltPrograms.{items_so, globals_typed, classes_so, library_so}
@@ -85,7 +85,7 @@ refusals_found tables library text kinds derived ok = by_failure (text_failure t
     limits = typed tables library text kinds >>= λ p. limits_failure tables.texts p
 
     filled_limits : Option Failure
-    filled_limits = limits_failure tables.texts (filled tables library text kinds)
+    filled_limits = limits_failure tables.texts (filled_program tables library text kinds)
 
     by_failure : (z : Option Failure) → text_failure tables library text kinds ≡ z → (text_failure tables library text kinds then limits) ≡ (text_failure tables library text kinds then filled_limits)
     by_failure (Some f) q = ap (λ (x : Option Failure). x then limits) q ∙ sym (ap (λ (x : Option Failure). x then filled_limits) q)

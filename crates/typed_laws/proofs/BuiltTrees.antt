@@ -1,9 +1,9 @@
 -- The typed tree of an expression or statement without a failure is there, and is the one that is filled in.
-use Rattle.std.proofs.Common.{◌≡◌, ℕ, ℤ, zero, suc, ◌+◌, refl, sym, ap, ◌∙◌, subst, Bool, true, false, Option, Some, None, List, [], ◌∷◌, ◌++◌, length, arith}
+use Rattle.std.proofs.Common.{◌≡◌, ℕ, ℤ, zero, suc, refl, sym, ap, ◌∙◌, subst, Bool, true, false, Option, Some, None, List, [], ◌∷◌, ◌++◌, length, arith}
 use Rattle.std.specs.Prelude.{slice_get, get_or, pos, not, IsSome, unwrap_or, if◌then◌else◌}
 use Rattle.std.specs.Option.{option_map}
 use Rattle.sts_base.specs.declared.tables.Tables.{Tables}
-use Rattle.sts_base.specs.declared.refused.Code.TheVariants.{Mismatch, BadHandler, UnknownName, NeedsType}
+use Rattle.sts_base.specs.declared.refused.Code.TheVariants.{Mismatch, BadHandler, UnknownName}
 use Rattle.sts_syntax.specs.Annotations.{Annotation}
 use Rattle.sts_syntax.specs.declared.typed.Spot.{Spot}
 use Rattle.sts_syntax.specs.declared.typed.Spot.TheVariants.{Local, Global}
@@ -16,7 +16,7 @@ use Rattle.sts_syntax.specs.TypedTrees.{TypedTree, TypedTrees, TypedStatement, T
 use Rattle.sts_syntax.specs.BoardTable as board
 use Rattle.sts_syntax.specs.BoardTable.{BoardParameter, row_of}
 use Rattle.sts_syntax.specs.declared.board_calls.BoardCall.{BoardCall}
-use Rattle.sts_syntax.specs.Trees.{Tree, Num, Text, Truth, Null, This, Name, Unary, Binary, Both, Either, Choice, Set, Bump, Member, Item, Call, SuperCall, Make, Items, Handler, Trees, none, more, OptionalTree, absent, present, Statement, Block, Let, IfOnly, IfElse, While, DoWhile, For, ForOf, Return, Break, Continue, Plain, Empty, Statements, done, also, OptionalStatement, omitted, written, Declaration, Declare, Declarations, ended, next, Routine, Does}
+use Rattle.sts_syntax.specs.Trees.{Tree, Num, Text, Truth, Null, This, Name, Unary, Binary, Both, Either, Choice, Set, Bump, Member, Item, Call, SuperCall, Make, Items, Handler, Trees, none, more, OptionalTree, absent, present, Statement, Block, Let, IfOnly, IfElse, While, DoWhile, For, ForOf, Return, Break, Continue, Plain, Empty, Statements, done, also, omitted, written, Declaration, Declare, Declarations, ended, next, Does}
 use Rattle.sts_scope.specs.declared.kinds.StaticType.{StaticType}
 use Rattle.sts_scope.specs.declared.known.Known.{Known}
 use Rattle.sts_scope.specs.declared.known.Local.{Local as NamedLocal}
@@ -25,32 +25,32 @@ use Rattle.sts_scope.specs.declared.known.Found.TheVariants as found
 use Rattle.sts_scope.specs.declared.known.Part.{Part}
 use Rattle.sts_scope.specs.declared.known.Part.TheVariants as part
 use Rattle.sts_scope.specs.Entries.{Naming, kind_of, written_kind}
-use Rattle.sts_scope.specs.Failures.{Failure, ◌then◌, unless, own}
+use Rattle.sts_scope.specs.Failures.{Failure, ◌then◌, failure_at, unless, own}
 use Rattle.sts_scope.specs.Globals.{is_dollar}
 use Rattle.sts_scope.specs.Headings.{written_failure, type_name_failure}
 use Rattle.sts_scope.specs.Kinds.{nothing, class_of, value_type}
 use Rattle.sts_scope.specs.Numbers.{Numbering, routine_number}
-use Rattle.sts_scope.specs.Places.{NameScope, inner}
+use Rattle.sts_scope.specs.Places.{inner}
 use Rattle.sts_scope.specs.Rules.{local_kind, part_of, takes_at, maker_takes_of, goes, all_go}
 use Rattle.type_derive.specs.declared.roles.Role.{Role}
 use Rattle.type_derive.specs.declared.roles.Role.TheVariants.{Free, Given, Called, Served}
 use Rattle.type_derive.specs.Built as b
 use Rattle.type_derive.specs.Built.{Site, in_block, behind_statement, first_site, in_handler_site, spot_of, member_read, part_target, part_takes, function_found, class_found, board_target, frame_of}
-use Rattle.type_derive.specs.Making.{Made, Making, nothing_made, pure, ◌>=>◌, looked, a_local}
-use Rattle.type_derive.specs.Nodes.{kind_role, failure, failures, handler_failure, own_type, own_test, own_member, own_called, own_super, own_make, own_board, own_name, own_local, own_bound, initial_failure, optional_failure, test_failure, declaration_failure, declarations_failure, statement_failure, first_failure, statements_failure, serves_itself, is_called, is_list, fits}
-use Rattle.type_derive.specs.Returns.{is_alone, bound, after, looped as looped_in, items_of}
+use Rattle.type_derive.specs.Making.{Making, nothing_made, pure, ◌>=>◌, looked, a_local}
+use Rattle.type_derive.specs.Nodes.{kind_role, failure, failures, handler_failure, own_test, own_local, own_bound, initial_failure, optional_failure, test_failure, declaration_failure, declarations_failure, statement_failure, statements_failure, serves_itself, is_list, untyped}
+use Rattle.type_derive.specs.Returns.{is_alone, bound, looped as looped_in, items_of}
 use Rattle.type_derive.specs.Typing
-use Rattle.type_derive.specs.Typing.{◌>>=◌, Callee, finds, constant_of, board_callee, callee_of, super_method, board_kind, type_of, types_of, are_given, is_given, is_routine, is_drawing, names_function, given_to, draws, drawn, text_at}
+use Rattle.type_derive.specs.Typing.{◌>>=◌, Callee, finds, constant_of, board_callee, callee_of, super_method, board_kind, type_of, types_of, are_given, is_given, is_routine, is_drawing, names_function, fits, draws, drawn, text_at}
 use Rattle.type_derive.specs.inner.Filled as f
 use Rattle.type_derive.specs.inner.Filling as f'
 use Rattle.typed_laws.specs.Laws.{IsRead}
-use Rattle.typed_laws.specs.Needs.{IsReadName, IsReadPart, IsCalledName, IsCalledPart, IsCalledTree, ArgumentsGo, IsWholeNode, HasSpots}
+use Rattle.typed_laws.specs.Needs.{IsReadName, IsReadPart, IsCalledName, IsCalledPart, IsCalledTree, ArgumentsGo, HasSpots}
 use Rattle.typed_laws.proofs.Agreeing.{Agree, agree_bind, agree_looked, agree1, agree2, agree_routines}
 use Rattle.typed_laws.proofs.FilledParts.{onward}
-use Rattle.typed_laws.proofs.Names.{bind_some, some_is, space_valueless}
+use Rattle.typed_laws.proofs.Names.{bind_some, some_is}
 use Rattle.typed_laws.proofs.OneNode.{both_true}
-use Rattle.typed_laws.proofs.Typed.{Has, typed, last, first, unless_true, own_has}
-use Rattle.typed_laws.proofs.TreeFacts.{not_called, alone_is, unless_waived}
+use Rattle.typed_laws.proofs.Typed.{Has, typed, last, first, own_has, of_call, member_free}
+use Rattle.typed_laws.proofs.TreeFacts.{alone_is, unless_waived}
 use Rattle.typed_laws.proofs.WholeNodes.{node_whole, bound_whole, loop_whole, statement_spots, one_more}
 
 read_so : (g : Option StaticType) → IsRead (kind_role g)
@@ -92,6 +92,9 @@ module _ (tables : Tables) (names : Naming) (k : Known) (numbers : Numbering) wh
 
   abbrev bad : Site → Role → Tree → Option Failure
   bad s r a = failure tables names k s.place r a
+
+  abbrev un : Site → Option StaticType → Tree → ℕ → Option Failure
+  un s g a at = untyped tables k s.place (kind_role g) a at
 
   abbrev mo : Site → Statement → Making TypedStatement
   mo s a = b.made_statement tables names k numbers s a
@@ -200,40 +203,14 @@ module _ (tables : Tables) (names : Naming) (k : Known) (numbers : Numbering) wh
     | None ↦ onward (fk s None a) (λ x. f'.pure (f.member_read tables names k numbers (note s g (Member i a m)) (f.part_in tables names k numbers s a m) (f.class_in tables names k numbers s a) m x))
   ]
 
-  abbrev member_failure : Site → Role → ℕ → Tree → ℕ → Option ℤ → Option BoardCall → Option Failure
-  member_failure s r i a m z call = elim z [
-    | Some y ↦ None
-    | None ↦ elim call [
-      | Some o ↦ unless (is_called r) BadHandler i
-      | None ↦ bad s Free a then own_member tables names k r (ty s Free a) m i
-    ]
-  ]
-
   abbrev MemberWhole : Site → Tree → ℕ → Option ℤ → Type 0
   MemberWhole s a m z = elim z [ Some y ↦ Unit {0} | None ↦ (u : StaticType) × (ty s Free a ≡ Some u) × IsReadPart u (part_of tables.names k u m) ]
 
-  -- a member whose value is read has no failure before it
-  read_failure : (s : Site) (g : Option StaticType) (i : ℕ) (a : Tree) (m : ℕ) (call : Option BoardCall) → member_failure s (kind_role g) i a m None call ≡ None → bad s Free a ≡ None
-  read_failure s g i a m (Some o) h = absurd (not_called g i h)
-  read_failure s g i a m None h = first (bad s Free a) (own_member tables names k (kind_role g) (ty s Free a) m i) h
-
-  -- nor has one that is called
-  no_value : (s : Site) (a : Tree) (m : ℕ) (z : ℤ) (u : StaticType) → constant_of tables k s.place a m ≡ Some z → ty s Free a ≡ Some u → ⊥
-  no_value s a m z u h q =
-      let (sp, r, i) = bind_some (Typing.space tables k s.place a) (λ sp. board.constant_named sp (Typing.spelling tables m)) z h in
-      let n : None ≡ Some u = sym (space_valueless tables k s.place a sp r) ∙ q in
-      cc
-
-  called_failure : (s : Site) (i : ℕ) (a : Tree) (m : ℕ) (u : StaticType) (z : Option ℤ) (o : Option BoardCall) → constant_of tables k s.place a m ≡ z → o ≡ None → ty s Free a ≡ Some u → member_failure s Called i a m z o ≡ None → bad s Free a ≡ None
-  called_failure s i a m u (Some y) o q n r h = absurd (no_value s a m y u q r)
-  called_failure s i a m u None (Some call) q n r h = cc
-  called_failure s i a m u None None q n r h = first (bad s Free a) (own_member tables names k Called (ty s Free a) m i) h
-
-  member_so : (s : Site) (g : Option StaticType) (i : ℕ) (a : Tree) (m : ℕ) (z : Option ℤ) (call : Option BoardCall) → Noted s g (Member i a m) → (bad s Free a ≡ None → Agree (mk s None a) (fk s None a))
-      → MemberWhole s a m z → member_failure s (kind_role g) i a m z call ≡ None → Agree (member_made s g i a m z) (member_filled s g i a m z)
-  member_so s g i a m (Some y) call q inside w h = λ j n. refl
-  member_so s g i a m None call q inside (v, is, w) h =
-      let none : bad s Free a ≡ None = read_failure s g i a m call h in
+  member_so : (s : Site) (g : Option StaticType) (i : ℕ) (a : Tree) (m : ℕ) (z : Option ℤ) → Noted s g (Member i a m) → (bad s Free a ≡ None → Agree (mk s None a) (fk s None a))
+      → MemberWhole s a m z → bad s (kind_role g) (Member i a m) ≡ None → Agree (member_made s g i a m z) (member_filled s g i a m z)
+  member_so s g i a m (Some y) q inside w h = λ j n. refl
+  member_so s g i a m None q inside (v, is, w) h =
+      let none : bad s Free a ≡ None = member_free tables names k s.place (kind_role g) i a m v h is in
       let here : v ≡ free s a = some_is v (free s a) (sym is ∙ free_there s a none) in
       let w' : IsReadPart (free s a) (part_of tables.names k (free s a) m) = subst (λ (y : StaticType). IsReadPart y (part_of tables.names k y m)) here w in
       let u : ValueType = note s g (Member i a m) in
@@ -258,10 +235,6 @@ module _ (tables : Tables) (names : Naming) (k : Known) (numbers : Numbering) wh
         (λ xs. f'.pure (e.Call (note s g (Call i l args)) (board_target call (row_of call).action) xs))
     | None ↦ f.made_call tables names k numbers s (note s g (Call i l args)) l (f.made_given tables names k numbers s (f.call_takes tables names k numbers s l) args)
   ]
-
-  abbrev call_failure : Site → ℕ → Tree → Trees → Option BoardCall → Option Failure
-  call_failure s i l args (Some call) = failures tables names k s.place (row_of call).takes args then own_board tables names k s.place (row_of call).takes args i
-  call_failure s i l args None = bad s Called l then failures tables names k s.place [] args then own_called tables names k (callee_of tables k s.place l) (types_of tables k s.place args) i
 
   abbrev CallWhole : Site → Tree → Trees → Option BoardCall → Type 0
   CallWhole s l args o = elim o [
@@ -300,13 +273,13 @@ module _ (tables : Tables) (names : Naming) (k : Known) (numbers : Numbering) wh
   part_takes_so part.Missing d is = cc
 
   -- a member that is called
-  called_so : (s : Site) (u : ValueType) (j : ℕ) (a : Tree) (m : ℕ) (args : Trees) (d : Callee) → board_callee tables k s.place (Member j a m) ≡ None → bad s Called (Member j a m) ≡ None
+  called_so : (s : Site) (u : ValueType) (j : ℕ) (a : Tree) (m : ℕ) (args : Trees) (d : Callee) → bad s Called (Member j a m) ≡ None
       → IsCalledTree tables k s.place (Member j a m) → callee_of tables k s.place (Member j a m) ≡ Some d → ArgumentsGo tables k s.place d.takes args
       → failures tables names k s.place [] args ≡ None → (bad s Free a ≡ None → Agree (mk s None a) (fk s None a)) → GivenSo s args
       → Agree (b.made_call tables names k numbers s u (Member j a m) (λ takes. b.made_given tables names k numbers s takes args))
       (f.made_call tables names k numbers s u (Member j a m) (f.made_given tables names k numbers s (f.part_takes tables names k numbers (f.part_in tables names k numbers s a m)) args))
-  called_so s u j a m args d plain hf (v, is, called) callee_is (us, ts, go) ha inside given_so =
-      let none : bad s Free a ≡ None = called_failure s j a m v (constant_of tables k s.place a m) (board_callee tables k s.place (Member j a m)) refl plain is hf in
+  called_so s u j a m args d hf (v, is, called) callee_is (us, ts, go) ha inside given_so =
+      let none : bad s Free a ≡ None = member_free tables names k s.place Called j a m v hf is in
       let w : StaticType = free s a in
       let w_is : ty s Free a ≡ Some w = free_there s a none in
       let here : v ≡ w = some_is v w (sym is ∙ w_is) in
@@ -400,22 +373,22 @@ module _ (tables : Tables) (names : Naming) (k : Known) (numbers : Numbering) wh
         (name_so s l hs (node_whole tables k s.place names (kind_role g) (Name i x) (read_so g) h)) (as_noted_is s g (Name i x) (λ u. e.Name u spot) h)
     tree s g (Unary i op a) hs h =
         agree_bind (mk s None a) (λ x. b.as_noted tables names k numbers s g (Unary i op a) (λ u. e.Unary u op x)) (fk s None a) (λ x. f'.pure (e.Unary (note s g (Unary i op a)) op x))
-        (tree s None a hs (first (bad s Free a) (own_type tables names k s.place (kind_role g) (Unary i op a) i) h)) (λ x. as_noted_is s g (Unary i op a) (λ u. e.Unary u op x) h)
+        (tree s None a hs (first (bad s Free a) (un s g (Unary i op a) i) h)) (λ x. as_noted_is s g (Unary i op a) (λ u. e.Unary u op x) h)
     tree s g (Binary i op a a') hs h =
-        let O : Option Failure = own_type tables names k s.place (kind_role g) (Binary i op a a') i in
+        let O : Option Failure = un s g (Binary i op a a') i in
         let T : TypedTree → TypedTree → f'.Making TypedTree = λ x y. f'.pure (e.Binary (note s g (Binary i op a a')) op x y) in
         agree_bind (mk s None a) (λ x. mk s None a' >=> λ y. b.as_noted tables names k numbers s g (Binary i op a a') (λ u. e.Binary u op x y)) (fk s None a) (λ x. onward (fk s None a') (T x))
         (tree s None a hs (first (bad s Free a) (bad s Free a' then O) h))
         (λ x. agree_bind (mk s None a') (λ y. b.as_noted tables names k numbers s g (Binary i op a a') (λ u. e.Binary u op x y)) (fk s None a') (T x)
         (tree s None a' hs (first (bad s Free a') O (last (bad s Free a) (bad s Free a' then O) h))) (λ y. as_noted_is s g (Binary i op a a') (λ u. e.Binary u op x y) h))
     tree s g (Both i a a') hs h =
-        let O : Option Failure = own_type tables names k s.place (kind_role g) (Both i a a') i in
+        let O : Option Failure = un s g (Both i a a') i in
         agree2 (λ x y. e.Both t.Boolean x y) (mk s None a) (fk s None a) (mk s None a') (fk s None a') (tree s None a hs (first (bad s Free a) (bad s Free a' then O) h)) (tree s None a' hs (first (bad s Free a') O (last (bad s Free a) (bad s Free a' then O) h)))
     tree s g (Either i a a') hs h =
-        let O : Option Failure = own_type tables names k s.place (kind_role g) (Either i a a') i in
+        let O : Option Failure = un s g (Either i a a') i in
         agree2 (λ x y. e.Either t.Boolean x y) (mk s None a) (fk s None a) (mk s None a') (fk s None a') (tree s None a hs (first (bad s Free a) (bad s Free a' then O) h)) (tree s None a' hs (first (bad s Free a') O (last (bad s Free a) (bad s Free a' then O) h)))
     tree s g (Choice i q a a') hs h =
-        let O : Option Failure = own_type tables names k s.place (kind_role g) (Choice i q a a') i in
+        let O : Option Failure = un s g (Choice i q a a') i in
         let B : Option Failure = bad s Free a' then O in
         let C : Option Failure = bad s Free a then B in
         let T : TypedTree → TypedTree → TypedTree → f'.Making TypedTree = λ z x y. f'.pure (e.Choice (note s g (Choice i q a a')) z x y) in
@@ -425,7 +398,7 @@ module _ (tables : Tables) (names : Naming) (k : Known) (numbers : Numbering) wh
         (λ x. agree_bind (mk s None a') (R z x) (fk s None a') (T z x) (tree s None a' hs (first (bad s Free a') O (last (bad s Free a) B (last (bad s Free q) C h))))
         (λ y. as_noted_is s g (Choice i q a a') (λ u. e.Choice u z x y) h)))
     tree s g (Set i op x r) hs h =
-        let O : Option Failure = own_type tables names k s.place (kind_role g) (Set i op x r) i in
+        let O : Option Failure = un s g (Set i op x r) i in
         let hx : bad s Free x ≡ None = first (bad s Free x) (bad s Given r then O) h in
         let v : StaticType = free s x in
         let T : TypedTree → TypedTree → f'.Making TypedTree = λ y z. f'.pure (e.Set (note s g (Set i op x r)) op y z) in
@@ -435,12 +408,12 @@ module _ (tables : Tables) (names : Naming) (k : Known) (numbers : Numbering) wh
         (λ y. agree_bind (mk s (Some v) r) (R y) (fk s (Some v) r) (T y) (tree s (Some v) r hs (first (bad s Given r) O (last (bad s Free x) (bad s Given r then O) h)))
         (λ z. as_noted_is s g (Set i op x r) (λ u. e.Set u op y z) h)))
     tree s g (Bump i x by late) hs h =
-        agree1 (λ a. e.Bump t.Number a by late) (mk s None x) (fk s None x) (tree s None x hs (first (bad s Free x) (own_type tables names k s.place (kind_role g) (Bump i x by late) i) h))
+        agree1 (λ a. e.Bump t.Number a by late) (mk s None x) (fk s None x) (tree s None x hs (first (bad s Free x) (un s g (Bump i x by late) i) h))
     tree s g (Member i a m) hs h =
-        member_so s g i a m (constant_of tables k s.place a m) (board_callee tables k s.place (Member i a m)) (noted_there s g (Member i a m) h) (λ o. tree s None a hs o)
+        member_so s g i a m (constant_of tables k s.place a m) (noted_there s g (Member i a m) h) (λ o. tree s None a hs o)
         (node_whole tables k s.place names (kind_role g) (Member i a m) (read_so g) h) h
     tree s g (Item i a j) hs h =
-        let O : Option Failure = own_type tables names k s.place (kind_role g) (Item i a j) i in
+        let O : Option Failure = un s g (Item i a j) i in
         let T : TypedTree → TypedTree → f'.Making TypedTree = λ x y. f'.pure (e.Item (note s g (Item i a j)) x y) in
         agree_bind (mk s None a) (λ x. mk s None j >=> λ y. b.as_noted tables names k numbers s g (Item i a j) (λ u. e.Item u x y)) (fk s None a) (λ x. onward (fk s None j) (T x))
         (tree s None a hs (first (bad s Free a) (bad s Free j then O) h))
@@ -448,7 +421,7 @@ module _ (tables : Tables) (names : Naming) (k : Known) (numbers : Numbering) wh
         (tree s None j hs (first (bad s Free j) O (last (bad s Free a) (bad s Free j then O) h))) (λ y. as_noted_is s g (Item i a j) (λ u. e.Item u x y) h))
     tree s g (Items i none) hs h = as_noted_is s g (Items i none) (λ u. e.Items u e.none) h
     tree s g (Items i (more a rest)) hs h =
-        let O : Option Failure = own_type tables names k s.place (kind_role g) (Items i (more a rest)) i in
+        let O : Option Failure = un s g (Items i (more a rest)) i in
         let R0 : Option Failure = failures tables names k s.place [] rest in
         let ha : bad s Free a ≡ None = first (bad s Free a) (R0 then O) h in
         let v : StaticType = free s a in
@@ -459,57 +432,55 @@ module _ (tables : Tables) (names : Naming) (k : Known) (numbers : Numbering) wh
         (λ x. agree_bind (b.made_items tables names k numbers s v rest) (R x) (f.made_items tables names k numbers s v rest) (T x) (items s v rest hs (first R0 O (last (bad s Free a) (R0 then O) h)))
         (λ xs. as_noted_is s g (Items i (more a rest)) (λ u. e.Items u (e.more x xs)) h)))
     tree s g (Call i l args) hs h =
-        call s g i l args (board_callee tables k s.place l) hs refl h h (node_whole tables k s.place names (kind_role g) (Call i l args) (read_so g) h)
+        call s g i l args (board_callee tables k s.place l) hs h h (node_whole tables k s.place names (kind_role g) (Call i l args) (read_so g) h)
         (λ takes us ha ts go. given s takes us args hs ha ts go) (λ ps ha go. asked s ps args hs ha go)
     tree s g (SuperCall i None args) hs h = absurd (node_whole tables k s.place names (kind_role g) (SuperCall i None args) (read_so g) h)
     tree s g (SuperCall i (Some m) args) hs h =
         let o : Option ℕ = super_method tables k s.place.this m in
         let (d, is, go) = node_whole tables k s.place names (kind_role g) (SuperCall i (Some m) args) (read_so g) h in
         super_so s g i m args o (noted_there s g (SuperCall i (Some m) args) h) h d is go
-        (first (failures tables names k s.place [] args) (own_super tables names k s.place m o (ty s (kind_role g) (SuperCall i (Some m) args)) i) h) (λ takes us ha ts go'. given s takes us args hs ha ts go')
+        (first (failures tables names k s.place [] args) (un s g (SuperCall i (Some m) args) i) h) (λ takes us ha ts go'. given s takes us args hs ha ts go')
     tree s g (Make i x args) hs h =
         let l : Found = finds tables k s.place x in
         let (class, is, go) = node_whole tables k s.place names (kind_role g) (Make i x args) (read_so g) h in
-        make_so s args l class is go (first (failures tables names k s.place [] args) (own_make tables names k l (Typing.made tables k l) (ty s (kind_role g) (Make i x args)) i) h) (λ takes us ha ts go'. given s takes us args hs ha ts go')
+        make_so s args l class is go (first (failures tables names k s.place [] args) (un s g (Make i x args) i) h) (λ takes us ha ts go'. given s takes us args hs ha ts go')
     tree s g (Handler i body) hs h = absurd (node_whole tables k s.place names (kind_role g) (Handler i body) (read_so g) h)
 
-    call : (s : Site) (g : Option StaticType) (i : ℕ) (l : Tree) (args : Trees) (o : Option BoardCall) → HasSpots s → board_callee tables k s.place l ≡ o → bad s (kind_role g) (Call i l args) ≡ None → call_failure s i l args o ≡ None → CallWhole s l args o → GivenSo s args → AskedSo s args
+    call : (s : Site) (g : Option StaticType) (i : ℕ) (l : Tree) (args : Trees) (o : Option BoardCall) → HasSpots s → bad s (kind_role g) (Call i l args) ≡ None → of_call tables names k s.place i l args o ≡ None → CallWhole s l args o → GivenSo s args → AskedSo s args
         → Agree (call_made s g i l args o) (call_filled s g i l args o)
-    call s g i l args (Some o) hs is h h' w given_so asked_so =
+    call s g i l args (Some o) hs h h' w given_so asked_so =
         agree_bind (b.made_asked tables names k numbers s (row_of o).takes args) (λ xs. b.as_noted tables names k numbers s g (Call i l args) (λ u. e.Call u (board_target o (row_of o).action) xs))
         (f.made_asked tables names k numbers s (row_of o).takes args) (λ xs. f'.pure (e.Call (note s g (Call i l args)) (board_target o (row_of o).action) xs))
-        (asked_so (row_of o).takes (first (failures tables names k s.place (row_of o).takes args) (own_board tables names k s.place (row_of o).takes args i) h') w)
+        (asked_so (row_of o).takes (first (failures tables names k s.place (row_of o).takes args) _ h') w)
         (λ xs. as_noted_is s g (Call i l args) (λ u. e.Call u (board_target o (row_of o).action) xs) h)
-    call s g i (Name j x) args None hs is h h' (called, d, callee_is, go) given_so asked_so =
+    call s g i (Name j x) args None hs h h' (called, d, callee_is, go) given_so asked_so =
         let l : Found = finds tables k s.place x in
         let u : ValueType = note s g (Call i (Name j x) args) in
-        let ha = first (failures tables names k s.place [] args) (own_called tables names k (callee_of tables k s.place (Name j x)) (types_of tables k s.place args) i) (last (bad s Called (Name j x)) (failures tables names k s.place [] args then own_called tables names k (callee_of tables k s.place (Name j x)) (types_of tables k s.place args) i) h') in
+        let ha = first (failures tables names k s.place [] args) _ (last (bad s Called (Name j x)) _ h') in
         agree_looked (b.noted tables names k numbers s g (Call i (Name j x) args)) u (λ y. b.made_call tables names k numbers s y (Name j x) (λ takes. b.made_given tables names k numbers s takes args)) (call_filled s g i (Name j x) args None) (noted_there s g (Call i (Name j x) args) h)
         (function_so s u args l d called callee_is go ha given_so)
-    call s g i (Member j a m) args None hs is h h' (called, d, callee_is, go) given_so asked_so =
+    call s g i (Member j a m) args None hs h h' (called, d, callee_is, go) given_so asked_so =
         let u : ValueType = note s g (Call i (Member j a m) args) in
-        let O : Option Failure = own_called tables names k (callee_of tables k s.place (Member j a m)) (types_of tables k s.place args) i in
-        let F : Option Failure = failures tables names k s.place [] args in
         agree_looked (b.noted tables names k numbers s g (Call i (Member j a m) args)) u (λ y. b.made_call tables names k numbers s y (Member j a m) (λ takes. b.made_given tables names k numbers s takes args)) (call_filled s g i (Member j a m) args None) (noted_there s g (Call i (Member j a m) args) h)
-        (called_so s u j a m args d is (first (bad s Called (Member j a m)) (F then O) h') called callee_is go (first F O (last (bad s Called (Member j a m)) (F then O) h')) (λ o. tree s None a hs o) given_so)
-    call s g i (Num j n) args None hs is h h' w given_so asked_so = absurd w.0
-    call s g i (Text j n) args None hs is h h' w given_so asked_so = absurd w.0
-    call s g i (Truth j n) args None hs is h h' w given_so asked_so = absurd w.0
-    call s g i (Null j) args None hs is h h' w given_so asked_so = absurd w.0
-    call s g i (This j) args None hs is h h' w given_so asked_so = absurd w.0
-    call s g i (Unary j op a) args None hs is h h' w given_so asked_so = absurd w.0
-    call s g i (Binary j op a a') args None hs is h h' w given_so asked_so = absurd w.0
-    call s g i (Both j a a') args None hs is h h' w given_so asked_so = absurd w.0
-    call s g i (Either j a a') args None hs is h h' w given_so asked_so = absurd w.0
-    call s g i (Choice j q a a') args None hs is h h' w given_so asked_so = absurd w.0
-    call s g i (Set j op x r) args None hs is h h' w given_so asked_so = absurd w.0
-    call s g i (Bump j x by late) args None hs is h h' w given_so asked_so = absurd w.0
-    call s g i (Item j a l) args None hs is h h' w given_so asked_so = absurd w.0
-    call s g i (Items j l) args None hs is h h' w given_so asked_so = absurd w.0
-    call s g i (Call j l xs) args None hs is h h' w given_so asked_so = absurd w.0
-    call s g i (SuperCall j m xs) args None hs is h h' w given_so asked_so = absurd w.0
-    call s g i (Make j x xs) args None hs is h h' w given_so asked_so = absurd w.0
-    call s g i (Handler j body) args None hs is h h' w given_so asked_so = absurd w.0
+        (called_so s u j a m args d (first (bad s Called (Member j a m)) _ h') called callee_is go (first (failures tables names k s.place [] args) _ (last (bad s Called (Member j a m)) _ h')) (λ o. tree s None a hs o) given_so)
+    call s g i (Num j n) args None hs h h' w given_so asked_so = absurd w.0
+    call s g i (Text j n) args None hs h h' w given_so asked_so = absurd w.0
+    call s g i (Truth j n) args None hs h h' w given_so asked_so = absurd w.0
+    call s g i (Null j) args None hs h h' w given_so asked_so = absurd w.0
+    call s g i (This j) args None hs h h' w given_so asked_so = absurd w.0
+    call s g i (Unary j op a) args None hs h h' w given_so asked_so = absurd w.0
+    call s g i (Binary j op a a') args None hs h h' w given_so asked_so = absurd w.0
+    call s g i (Both j a a') args None hs h h' w given_so asked_so = absurd w.0
+    call s g i (Either j a a') args None hs h h' w given_so asked_so = absurd w.0
+    call s g i (Choice j q a a') args None hs h h' w given_so asked_so = absurd w.0
+    call s g i (Set j op x r) args None hs h h' w given_so asked_so = absurd w.0
+    call s g i (Bump j x by late) args None hs h h' w given_so asked_so = absurd w.0
+    call s g i (Item j a l) args None hs h h' w given_so asked_so = absurd w.0
+    call s g i (Items j l) args None hs h h' w given_so asked_so = absurd w.0
+    call s g i (Call j l xs) args None hs h h' w given_so asked_so = absurd w.0
+    call s g i (SuperCall j m xs) args None hs h h' w given_so asked_so = absurd w.0
+    call s g i (Make j x xs) args None hs h h' w given_so asked_so = absurd w.0
+    call s g i (Handler j body) args None hs h h' w given_so asked_so = absurd w.0
 
     -- arguments to which types are given, as many as are taken
     pub given : (s : Site) (takes us : List StaticType) (args : Trees) → HasSpots s → failures tables names k s.place [] args ≡ None → types_of tables k s.place args ≡ Some us → all_go k.classes us takes ≡ true
@@ -542,7 +513,7 @@ module _ (tables : Tables) (names : Naming) (k : Known) (numbers : Numbering) wh
     asked s (board.Handler ∷ ps) none hs h q = cc
     asked s (board.Drawing ∷ ps) none hs h q = cc
     asked s (board.Of v ∷ ps) (more a rest) hs h q =
-        let (given_so, rest_so) = both_true (given_to tables k (ty s Given a) v) (are_given tables k s.place ps rest) q in
+        let (given_so, rest_so) = both_true (fits k (ty s Given a) (Some (board_kind v))) (are_given tables k s.place ps rest) q in
         agree2 (λ x xs. e.more x xs) (mk s (Some (board_kind v)) a) (fk s (Some (board_kind v)) a) (b.made_asked tables names k numbers s ps rest) (f.made_asked tables names k numbers s ps rest)
         (tree s (Some (board_kind v)) a hs (first (bad s Given a) (failures tables names k s.place ps rest) h)) (asked s ps rest hs (last (bad s Given a) (failures tables names k s.place ps rest) h) rest_so)
     asked s (board.Drawing ∷ ps) (more a rest) hs h q =
@@ -560,12 +531,12 @@ module _ (tables : Tables) (names : Naming) (k : Known) (numbers : Numbering) wh
     handler s ps (Handler i (Does j [] gives all arrow)) hs h q =
         let s' : Site = in_handler_site tables names k s [] gives all in
         let inside : Option Failure = written_failure names j gives then statements_failure tables names k s'.place all in
-        let h1 : inside ≡ None = first inside (unless (serves_itself tables names k s.place (Does j [] gives all arrow)) BadHandler i) h in
+        let h1 : inside ≡ None = first inside (if serves_itself tables names k s.place (Does j [] gives all arrow) then None else failure_at BadHandler i) h in
         let all_so = statements s' all refl (last (written_failure names j gives) (statements_failure tables names k s'.place all) h1) in
         λ m n. ap (λ (o : Option (List TypedRoutine)). o >>= λ routines. Some (record { it = e.Handler t.Nothing n; locals = []; routines = routines }))
         (agree_routines [] t.Nothing (b.made_statements tables names k numbers s' all) (f.made_statements tables names k numbers s' all) n all_so)
     handler s ps (Handler i (Does j (l ∷ ls) gives all arrow)) hs h q =
-        let z : unless false BadHandler i ≡ None = last (handler_failure tables names k s.place (Does j (l ∷ ls) gives all arrow)) (unless false BadHandler i) h in
+        let z : failure_at BadHandler i ≡ None = last (handler_failure tables names k s.place (Does j (l ∷ ls) gives all arrow)) (failure_at BadHandler i) h in
         cc
     handler s ps a hs h q = cc
 
@@ -671,7 +642,7 @@ module _ (tables : Tables) (names : Naming) (k : Known) (numbers : Numbering) wh
         let A : Option Failure = bad s Free list in
         let B : Option Failure = wrong s1 a in
         let C : Option Failure = unless (not (is_dollar tables.names x)) UnknownName i in
-        let D : Option Failure = unless (is_list tables names k (ty s Free list)) Mismatch i in
+        let D : Option Failure = unless (is_list (ty s Free list)) Mismatch i in
         ap (λ (z : Option StaticType). looked z (λ v m n. (mk s None list >=> λ l. a_local (value_type v) (λ j. j) >=> λ j. a_local (t.ListOf (value_type v)) (λ y. y) >=> λ y. a_local t.Number (λ y. y) >=> λ y. mo s1 a >=> λ y. pure (e.ForOf fixed (Local j) l y)) m n) m n) (there o nothing (has_some o some_so))
         ∙ agree_bind (mk s None list) (λ l. a_local u (λ j. j) >=> λ j. a_local (t.ListOf u) (λ y. y) >=> λ y. a_local t.Number (λ y. y) >=> λ y. mo s1 a >=> λ y. pure (e.ForOf fixed (Local j) l y))
         (fk s None list) (λ l. onward (f'.a_local u (λ j. j)) (λ j. onward (f'.a_local (t.ListOf u) (λ y. y)) (λ y. onward (f'.a_local t.Number (λ y. y)) (λ y. onward (fo s1 a) (λ y. f'.pure (e.ForOf fixed (Local j) l y))))))

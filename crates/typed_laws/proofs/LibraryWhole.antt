@@ -11,7 +11,7 @@ use Rattle.sts_syntax.specs.Weights.{routines_weight}
 use Rattle.sts_scope.specs.declared.kinds.StaticType.{StaticType}
 use Rattle.sts_scope.specs.Rules.{kind_at}
 use Rattle.type_derive.specs.Accepted.{known, AreDerived}
-use Rattle.type_derive.specs.inner.FilledTexts.{filled}
+use Rattle.type_derive.specs.inner.FilledTexts.{filled_program}
 use Rattle.type_derive.specs.Libraries.{IsLibrary}
 use Rattle.sts_grammar.specs.Laws.{OneProgram}
 use Rattle.sts_grammar.specs.Texts.{no_entries}
@@ -66,9 +66,9 @@ functions_typed tokens names texts text kinds n x read derived =
 
 pub typed_light : (tokens : List Token) (names texts : List (List ℕ)) (text : Program) (kinds : List (Option StaticType)) → IsDistinct first.names → IsDistinct first.texts
     → IsTokenization first LIBRARY.now tokens → AreDerived (record { names = first.names ++ names; texts = first.texts ++ texts }) (l.library tokens) text kinds
-    → routines_weight (take library_size (filled (record { names = first.names ++ names; texts = first.texts ++ texts }) (l.library tokens) text kinds).functions) ≤ 600
+    → routines_weight (take library_size (filled_program (record { names = first.names ++ names; texts = first.texts ++ texts }) (l.library tokens) text kinds).functions) ≤ 600
 typed_light tokens names texts text kinds n x read derived =
     let is : tokens ≡ own_tokens = own_tokens_are own tokens n x read ∙ unmoved in
-    subst (λ (ts : List Token). routines_weight (take library_size (filled (record { names = first.names ++ names; texts = first.texts ++ texts }) (l.library ts) text kinds).functions) ≤ 600) (sym is)
+    subst (λ (ts : List Token). routines_weight (take library_size (filled_program (record { names = first.names ++ names; texts = first.texts ++ texts }) (l.library ts) text kinds).functions) ≤ 600) (sym is)
     (light names texts text kinds
     (subst (λ (ts : List Token). AreDerived (record { names = first.names ++ names; texts = first.texts ++ texts }) (l.library ts) text kinds) is derived))

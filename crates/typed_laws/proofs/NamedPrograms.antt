@@ -27,7 +27,7 @@ use Rattle.type_derive.specs.Programs.{◌before◌, passed_on}
 use Rattle.type_derive.specs.inner.FilledPrograms.{site, class_result, function_made, method_made, initial_made, set_field, initials, super_called, made_statements_of, constructor_made, passes_on, unwritten_made, members_made, class_made, global_made, globals_made, main_made, items_made, library_made}
 use Rattle.type_derive.specs.Formed.{BodyHas, DeclarationHas, DeclarationsHave, StatementsHave, MembersHave, ProgramHas, StatementHas, TextsBelow}
 use Rattle.type_derive.specs.Accepted.{known}
-use Rattle.type_derive.specs.inner.FilledTexts.{filled}
+use Rattle.type_derive.specs.inner.FilledTexts.{filled_program}
 use Rattle.typed_laws.proofs.TextsKept.{AllName, RoutinesName, both, routines_both, Sound, Makes, makes_pure, one_of, two_of, OfTrees, OfOption, OfDeclaration, OfDeclarations, OfStatement, OfStatements, routine_names, Whatever, Below, first, given, statement, statements}
 
 module _ (n : ℕ) where
@@ -183,7 +183,7 @@ module _ (n : ℕ) where
   texts_below (e.Items u items ∷ rest) h = texts_below rest h.1
   texts_below (e.Handler u f ∷ rest) h = texts_below rest h.1
 
-  pub typed_names : (tables : Tables) (library text : Program) (kinds : List (Option StaticType)) → TextsBelow n library → TextsBelow n text → NamesTexts n (filled tables library text kinds)
+  pub typed_names : (tables : Tables) (library text : Program) (kinds : List (Option StaticType)) → TextsBelow n library → TextsBelow n text → NamesTexts n (filled_program tables library text kinds)
   typed_names tables library text kinds hl ht =
       let names = all_names library text in
       let k = known library text kinds in
@@ -194,4 +194,4 @@ module _ (n : ℕ) where
       let last : RoutinesName n (record { params = []; locals = made.locals; gives = t.Nothing; all = made.it } ∷ []) = (good.it, tt) in
       let front = routines_both n start made.routines (library_names tables names k numbers 0 0 library hl) good.routines in
       let whole = routines_both n (start ++ made.routines) (record { params = []; locals = made.locals; gives = t.Nothing; all = made.it } ∷ []) front last in
-      texts_below (all_expressions (filled tables library text kinds).functions) (routines_flat (filled tables library text kinds).functions whole)
+      texts_below (all_expressions (filled_program tables library text kinds).functions) (routines_flat (filled_program tables library text kinds).functions whole)

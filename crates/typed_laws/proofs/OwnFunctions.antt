@@ -20,7 +20,7 @@ use Rattle.sts_scope.specs.Numbers.{Numbering, numbering, member_numbers, global
 use Rattle.sts_scope.specs.Rules.{kind_at}
 use Rattle.sts_scope.specs.Scopes.{all_names, library_classes}
 use Rattle.type_derive.specs.Accepted.{known, AreDerived, main_routine, text_failure}
-use Rattle.type_derive.specs.inner.FilledTexts.{filled}
+use Rattle.type_derive.specs.inner.FilledTexts.{filled_program}
 use Rattle.type_derive.specs.Formed.{IsFormedProgram}
 use Rattle.type_derive.specs.Libraries.{OnlyFunctions, library_failure, IsLibrary}
 use Rattle.type_derive.specs.Nodes.{statements_failure}
@@ -264,7 +264,7 @@ module _ (tables : Tables) (library text : Program) (kinds : List (Option Static
   numbers = numbering (library ++ text)
 
   abbrev P : TypedProgram
-  P = filled tables library text kinds
+  P = filled_program tables library text kinds
 
   abbrev c0 : ℕ
   c0 = library_classes library text
@@ -329,5 +329,5 @@ module _ (tables : Tables) (library text : Program) (kinds : List (Option Static
 
 pub functions_declared : FunctionsAreTheirs
 functions_declared tables library text kinds P formed derived ok no_failure is =
-    let same : filled tables library text kinds ≡ P = some_is (filled tables library text kinds) P (sym (texts_built tables library text kinds derived ok no_failure) ∙ is) in
+    let same : filled_program tables library text kinds ≡ P = some_is (filled_program tables library text kinds) P (sym (texts_built tables library text kinds derived ok no_failure) ∙ is) in
     subst (λ (z : TypedProgram). FunctionsAreDeclared tables library text kinds z) same (declared_filled tables library text kinds formed derived ok no_failure)

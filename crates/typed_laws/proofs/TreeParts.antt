@@ -1,6 +1,6 @@
 -- Parts of trees without a failure are well typed.
 use Rattle.std.proofs.Common.{◌≡◌, ℕ, ℤ, suc, ◌+◌, refl, sym, ap, ◌∙◌, subst, Bool, true, false, ◌&&◌, ◌||◌, Option, Some, None, List, [], ◌∷◌, ◌++◌, inl, inr, arith, append_assoc}
-use Rattle.std.specs.Prelude.{nat_lt, not, is_some, pos, if◌then◌else◌, unwrap_or}
+use Rattle.std.specs.Prelude.{nat_lt, not, pos, if◌then◌else◌, unwrap_or}
 use Rattle.sts_base.specs.declared.tables.Tables.{Tables}
 use Rattle.sts_base.specs.declared.refused.Code.{Code}
 use Rattle.sts_syntax.specs.Annotations.{Annotation}
@@ -36,7 +36,7 @@ use Rattle.type_derive.specs.declared.roles.Role.{Role}
 use Rattle.type_derive.specs.declared.roles.Role.TheVariants.{Free, Given, Served}
 use Rattle.type_derive.specs.Typing.{◌>>=◌, Callee, callee, names_function, board_kind, space, constant_of, board_callee, named_callee, part_callee, super_method, made, called, fits, type_of, types_of, are_given, is_drawing, drawn, spelling, text_at}
 use Rattle.type_derive.specs.Returns.{declared, all_declared, after, after_first}
-use Rattle.type_derive.specs.Nodes.{why_named, is_of_board, failure, failures, is_list}
+use Rattle.type_derive.specs.Nodes.{why_named, failure, failures, is_list}
 use Rattle.sts_scope.specs.Handlers.{handlers, handlers_of}
 use Rattle.type_derive.specs.inner.Filling.{Making, pure, ◌>=>◌, a_local}
 use Rattle.sts_scope.specs.Numbers.{Numbering, field_names, slot_names, place_among, routine_number}
@@ -49,7 +49,7 @@ use Rattle.typed_laws.proofs.OneNode.{both_true, either_true, if_gives, if_some,
 use Rattle.typed_laws.proofs.Typed.{typed, first, of_call, call_type as type_of_call}
 use Rattle.typed_laws.proofs.Makings.{Gives, gives_pure, gives_bind, gives_as, good_free, good_as}
 use Rattle.typed_laws.proofs.Makings.{Good as Built}
-use Rattle.typed_laws.proofs.Names.{called_parts, bind_some, space_valueless, some_is, Real, HasPart, has_part, proper}
+use Rattle.typed_laws.proofs.Names.{called_parts, bind_some, some_is, Real, HasPart, has_part, proper}
 use Rattle.typed_laws.proofs.Sites.{seen, seen_proper, Suits, improper, IsEmptyOr, suits_given, given_goes, empty_is_not_below, nothing_below_empty, IsGood, At}
 use Rattle.typed_laws.proofs.Boards.{are_plain, draw_nothing, serve_nothing, fit_action, gives_plain, takes_plain, action_fits, constant_int32, drawing_int32}
 use Rattle.typed_laws.proofs.TreeFacts.{kind_is, and_first, empty_same, empty_takes_null, empty_null, empty_number, nothing_is, none_is, hidden_is}
@@ -427,22 +427,6 @@ module _ (tables : Tables) (names : Naming) (k : Known) (numbers : Numbering) (P
   -- the constant of a name behind a space
   constant_handlers : (s : Site) (a : Tree) (m : ℕ) (z : ℤ) → constant_of tables k s.place a m ≡ Some z → 0 ≡ handlers a
   constant_handlers s a m z h = let (sp, q, r) = constant_is s a m z h in sym (space_alone s a sp q)
-
-  no_value : (s : Site) (a : Tree) (m : ℕ) (z : ℤ) (u : StaticType) → constant_of tables k s.place a m ≡ Some z → ty s Free a ≡ Some u → ⊥
-  no_value s a m z u h q = let (sp, r, i) = constant_is s a m z h in let n : None ≡ Some u = sym (space_valueless tables k s.place a sp r) ∙ q in cc
-
-  -- what stands before the dot of a member with a type has no failure
-  object_free : (s : Site) (i : ℕ) (a : Tree) (m : ℕ) (u : StaticType) (z : Option ℤ) (b : Option BoardCall) → constant_of tables k s.place a m ≡ z → board_callee tables k s.place (Member i a m) ≡ b → ty s Free a ≡ Some u
-      → (if is_some z || is_some b then None else bad s Free a) ≡ None → bad s Free a ≡ None
-  object_free s i a m u (Some y) b q o t h = absurd (no_value s a m y u q t)
-  object_free s i a m u None (Some call) q o t h =
-      let (sp, r, j) = bind_some (space tables k s.place a) (λ (x : List ℕ). call_named x (spelling tables m)) call o in
-      let n : None ≡ Some u = sym (space_valueless tables k s.place a sp r) ∙ t in cc
-  object_free s i a m u None None q o t h = h
-
-  pub member_free : (s : Site) (r : Role) (i : ℕ) (a : Tree) (m : ℕ) (u : StaticType) → bad s r (Member i a m) ≡ None → ty s Free a ≡ Some u → bad s Free a ≡ None
-  member_free s r i a m u h t =
-      object_free s i a m u (constant_of tables k s.place a m) (board_callee tables k s.place (Member i a m)) refl refl t (first (if is_of_board tables k s.place (Member i a m) then None else bad s Free a) _ h)
 
   abbrev pub call_failure : Site → ℕ → Tree → Trees → Option BoardCall → Option Failure
   call_failure s i f args b = of_call tables names k s.place i f args b

@@ -44,14 +44,14 @@ use Rattle.type_derive.specs.inner.Filled.{in_handler_site, behind_statement, fi
 use Rattle.type_derive.specs.Formed.{IsFormed, AreFormed, MayBeFormed, AreFormedDeclarations, IsFormedIn, IsFormedFirst, AreFormedIn}
 use Rattle.typed_laws.specs.Stands.{is_proper_base, IsProper, EachProper, Stands}
 use Rattle.typed_laws.proofs.OneNode.{both_true, same_is, works, prefixes, joins, chooses, counts, elements, array_type, arrayed}
-use Rattle.typed_laws.proofs.Typed.{typed, last, first, unless_true, own_has}
+use Rattle.typed_laws.proofs.Typed.{typed, last, first, unless_true, own_has, member_free}
 use Rattle.typed_laws.proofs.Makings.{IsInner, Inners, Gives, gives_pure, gives_bind, gives_as, kept_all, good_pure, good_bind, good_bind_at, good_free, good_local, good_as}
 use Rattle.typed_laws.proofs.Makings.{Good as Built}
 use Rattle.typed_laws.proofs.Names.{called_parts, bind_some, some_is, either_some, real, has_part, board_proper}
 use Rattle.typed_laws.proofs.Sites.{seen, Suits, Wanted, suits_given, given_goes, at_block, at_local, IsGood, At, name_good, this_good}
 use Rattle.typed_laws.proofs.Boards.{are_plain, plain_first, plain_rest}
 use Rattle.typed_laws.proofs.TreeFacts.{nothing_either, noted_is, kind_is, parts2, parts3, settable_is, test_is, alone_is, unless_waived, parts4, kind_proper}
-use Rattle.typed_laws.proofs.TreeParts.{free_proper, given_proper, seen_as, one, two, function_call, set_good, assign_suits, make_good, make_takes, takes_of_found, takes_of_part, takes_of_made, go_parts, go_none, go_more, go_to_parts, items_parts, Asked, member_free, call_failure, call_type, call_made, plain_serves, serves_true, served_so, given_to_is, drawing_good, ArgumentsTyped, AskedTyped, member, member_target, super, board_call, member_call, list_is, fits_is, handler_stand, gives_after, Declared, declared_one, declare, first_place, first_gives, declared_more}
+use Rattle.typed_laws.proofs.TreeParts.{free_proper, given_proper, seen_as, one, two, function_call, set_good, assign_suits, make_good, make_takes, takes_of_found, takes_of_part, takes_of_made, go_parts, go_none, go_more, go_to_parts, items_parts, Asked, call_failure, call_type, call_made, plain_serves, serves_true, served_so, given_to_is, drawing_good, ArgumentsTyped, AskedTyped, member, member_target, super, board_call, member_call, list_is, fits_is, handler_stand, gives_after, Declared, declared_one, declare, first_place, first_gives, declared_more}
 
 module _ (tables : Tables) (names : Naming) (k : Known) (numbers : Numbering) (P : TypedProgram) (st : Stands tables k numbers P) where
   abbrev Good : Setting → List ℕ → ValueType → TypedTree → Type 0
@@ -240,7 +240,7 @@ module _ (tables : Tables) (names : Naming) (k : Known) (numbers : Numbering) (P
         (λ l p. gives_pure P Q (e.Bump t.Number l by late) ((p.0, p.1 ∙ nv, refl, f.1), ap (λ (y : StaticType). value_type y) (sym nu)))) (λ l p. p) (omega arith)) refl
     tree S known s g (Member i a m) u at f g' h q z =
         member tables names k numbers P st S known s g a m u (noted tables names k numbers s g (Member i a m)) (constant_of tables k s.place a m) at f refl q
-        (noted_is (ty s (kind_role g) (Member i a m)) u q) (free_proper tables names k numbers P st S known s at (Member i a m) u q) (λ v q'. tree S known s None a v at f tt (member_free tables names k numbers P st s (kind_role g) i a m v h q') q' tt)
+        (noted_is (ty s (kind_role g) (Member i a m)) u q) (free_proper tables names k numbers P st S known s at (Member i a m) u q) (λ v q'. tree S known s None a v at f tt (member_free tables names k s.place (kind_role g) i a m v h q') q' tt)
     tree S known s g (Item i a j) u at f g' h q z =
         let (v, r, q1) = bind_some (ty s Free a) (λ v. ty s Free j >>= λ y. element v y) u q in
         let (y, r1, q2) = bind_some (ty s Free j) (λ y. element v y) u q1 in
@@ -311,7 +311,7 @@ module _ (tables : Tables) (names : Naming) (k : Known) (numbers : Numbering) (P
         gives_pure P (λ l. IsTarget P S known l × (w.type_of l ≡ value_type v)) (e.Name n sp) (has, same_n)
     target S known s (Member i a m) v at f h q may =
         member_target tables names k numbers P st S known s a m v (noted tables names k numbers s None (Member i a m)) (constant_of tables k s.place a m) refl q (noted_is (ty s Free (Member i a m)) v q) may
-        (λ v q'. tree S known s None a v at f tt (member_free tables names k numbers P st s Free i a m v h q') q' tt)
+        (λ v q'. tree S known s None a v at f tt (member_free tables names k s.place Free i a m v h q') q' tt)
     target S known s (Item i a j) u at f h q may =
         let (v, r, q1) = bind_some (ty s Free a) (λ v. ty s Free j >>= λ y. element v y) u q in
         let (y, r1, q2) = bind_some (ty s Free j) (λ y. element v y) u q1 in
@@ -394,7 +394,7 @@ module _ (tables : Tables) (names : Naming) (k : Known) (numbers : Numbering) (P
         let (d, us, q1, ts, go, result) = called_parts tables k (callee_of tables k s.place (Member j a m)) (types_of tables k s.place args) u q in
         let (v, r, q2) = bind_some (ty s Free a) (λ v. part_callee tables k (part_of tables.names k v m)) d q1 in
         let (hf, ha, ho) = parts2 (bad s Called (Member j a m)) (failures tables names k s.place [] args) _ h in
-        let free_a : bad s Free a ≡ None = member_free tables names k numbers P st s Called j a m v hf r in
+        let free_a : bad s Free a ≡ None = member_free tables names k s.place Called j a m v hf r in
         let takes_so : EachProper d.takes = takes_of_part tables names k numbers P st v m (part_of tables.names k v m) d (free_proper tables names k numbers P st S known s at a v r) (has_part k tables.names v m) q2 in
         seen_as tables names k numbers P st S known g u (handlers a + (handlers_of args + 0)) (handlers a + handlers_of args)
         (mk s None a >=> λ x. made_given tables names k numbers s (part_takes tables names k numbers (part_in tables names k numbers s a m)) args

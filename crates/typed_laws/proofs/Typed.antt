@@ -1,10 +1,10 @@
 -- An expression without a failure has a type.
-use Rattle.std.proofs.Common.{◌≡◌, ℕ, refl, sym, subst, Option, Some, None, [], Bool, true, false}
-use Rattle.std.specs.Prelude.{IsSome, if◌then◌else◌}
+use Rattle.std.proofs.Common.{◌≡◌, ℕ, ℤ, refl, sym, subst, ◌∙◌, Option, Some, None, List, [], Bool, true, false, ◌||◌}
+use Rattle.std.specs.Prelude.{IsSome, is_some, if◌then◌else◌}
 use Rattle.sts_base.specs.declared.tables.Tables.{Tables}
 use Rattle.sts_base.specs.declared.refused.Code.{Code}
 use Rattle.sts_base.specs.declared.refused.Code.TheVariants.{Mismatch, BadHandler}
-use Rattle.sts_syntax.specs.BoardTable.{row_of}
+use Rattle.sts_syntax.specs.BoardTable.{row_of, constant_named, call_named}
 use Rattle.sts_syntax.specs.declared.board_calls.BoardCall.{BoardCall}
 use Rattle.sts_syntax.specs.Trees.{Tree, Num, Text, Truth, Null, This, Name, Unary, Binary, Both, Either, Choice, Set, Bump, Member, Item, Call, SuperCall, Make, Items, Handler, Trees, none, more}
 use Rattle.sts_scope.specs.declared.kinds.StaticType.{StaticType}
@@ -17,8 +17,9 @@ use Rattle.sts_scope.specs.Rules.{this_kind}
 use Rattle.sts_scope.specs.Codes.{why_this, why_call}
 use Rattle.type_derive.specs.declared.roles.Role.{Role}
 use Rattle.type_derive.specs.declared.roles.Role.TheVariants.{Free, Given, Called, Served}
-use Rattle.type_derive.specs.Typing.{board_callee, callee_of, called, type_of, types_of, are_given, board_kind}
+use Rattle.type_derive.specs.Typing.{space, spelling, constant_of, board_callee, callee_of, called, type_of, types_of, are_given, board_kind}
 use Rattle.typed_laws.specs.Laws.{IsRead}
+use Rattle.typed_laws.proofs.Names.{bind_some, space_valueless}
 use Rattle.type_derive.specs.Nodes.{failure, failures, handler_failure, unsuited, cause_of, lacks_handler, is_of_board}
 
 -- a value that is there
@@ -113,3 +114,20 @@ module _ (tables : Tables) (names : Naming) (k : Known) where
   typed p r (SuperCall at m args) i h = own_has (type_of tables k p r (SuperCall at m args)) (cause_of tables k p r (SuperCall at m args)) at (last (failures tables names k p [] args) _ h)
   typed p r (Make at x args) i h = own_has (type_of tables k p r (Make at x args)) (cause_of tables k p r (Make at x args)) at (last (failures tables names k p [] args) _ h)
   typed p r (Handler at body) i h = unsuited_has p r (Handler at body) at i (last (handler_failure tables names k p body) _ h)
+
+  -- what stands before the dot of a member has no failure where it has a type
+  object_free : (p : NameScope) (at : ℕ) (a : Tree) (m : ℕ) (u : StaticType) (z : Option ℤ) (b : Option BoardCall) → constant_of tables k p a m ≡ z → board_callee tables k p (Member at a m) ≡ b → type_of tables k p Free a ≡ Some u
+      → (if is_some z || is_some b then None else failure tables names k p Free a) ≡ None → failure tables names k p Free a ≡ None
+  object_free p at a m u (Some y) b q o t h =
+      let (sp, r, i) = bind_some (space tables k p a) (λ (x : List ℕ). constant_named x (spelling tables m)) y q in
+      let n : None ≡ Some u = sym (space_valueless tables k p a sp r) ∙ t in
+      cc
+  object_free p at a m u None (Some call) q o t h =
+      let (sp, r, i) = bind_some (space tables k p a) (λ (x : List ℕ). call_named x (spelling tables m)) call o in
+      let n : None ≡ Some u = sym (space_valueless tables k p a sp r) ∙ t in
+      cc
+  object_free p at a m u None None q o t h = h
+
+  pub member_free : (p : NameScope) (r : Role) (at : ℕ) (a : Tree) (m : ℕ) (u : StaticType) → failure tables names k p r (Member at a m) ≡ None → type_of tables k p Free a ≡ Some u → failure tables names k p Free a ≡ None
+  member_free p r at a m u h t =
+      object_free p at a m u (constant_of tables k p a m) (board_callee tables k p (Member at a m)) refl refl t (first (if is_of_board tables k p (Member at a m) then None else failure tables names k p Free a) _ h)

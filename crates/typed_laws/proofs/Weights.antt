@@ -27,7 +27,7 @@ use Rattle.type_derive.specs.inner.FilledPrograms.{site, items_made, library_mad
 use Rattle.sts_scope.specs.Scopes.{all_names, library_classes}
 use Rattle.sts_scope.specs.Handlers.{all_routines}
 use Rattle.type_derive.specs.Accepted.{AreDerived, known, main_routine}
-use Rattle.type_derive.specs.inner.FilledTexts.{filled}
+use Rattle.type_derive.specs.inner.FilledTexts.{filled_program}
 use Rattle.sts_prelude.specs.inner.Library as l
 use Rattle.sts_prelude.proofs.Laws.{own_tokens}
 use Rattle.typed_laws.proofs.Prelude.{L, names, k, T, show, basic, number_glyph, text_glyph, serial}
@@ -42,7 +42,7 @@ sevens a b c d e f g all others last is h i j m n o p =
 typed_weighs : (tables : Tables) (library text : Program) (kinds : List (Option StaticType)) (a b c d e f g : TypedRoutine)
     → library_made tables (all_names library text) (known library text kinds) (numbering (library ++ text)) 0 0 library ≡ a ∷ b ∷ c ∷ d ∷ e ∷ f ∷ g ∷ []
     → weight a ≡ 10 → weight b ≡ 35 → weight c ≡ 35 → weight d ≡ 11 → weight e ≡ 13 → weight f ≡ 11 → weight g ≡ 11
-    → routines_weight (take library_size (filled tables library text kinds).functions) ≤ 600
+    → routines_weight (take library_size (filled_program tables library text kinds).functions) ≤ 600
 typed_weighs tables library text kinds a b c d e f g is h i j m n o p =
     let names : Naming = all_names library text in
     let k : Known = known library text kinds in
@@ -154,7 +154,7 @@ module _ (more rest : List (List ℕ)) (text : Program) (kinds : List (Option St
   greatest : (n : ℕ) (gives : Option StaticType) → weight (built more rest text kinds n gives (l.parameter own_tokens 205 a.Number ∷ l.parameter own_tokens 209 a.Number ∷ []) (l.one_of_two own_tokens 216 7)).it ≡ 11
   greatest n gives = refl
 
-  pub light : AreDerived (T more rest text kinds) L text kinds → routines_weight (take library_size (filled (T more rest text kinds) L text kinds).functions) ≤ 600
+  pub light : AreDerived (T more rest text kinds) L text kinds → routines_weight (take library_size (filled_program (T more rest text kinds) L text kinds).functions) ≤ 600
   light derived =
       typed_weighs (T more rest text kinds) L text kinds _ _ _ _ _ _ _ (made_is more rest text kinds derived)
       (leds 0 (kind_at (k more rest text kinds) 0)) (numbers 1 (kind_at (k more rest text kinds) 1)) (strings 2 (kind_at (k more rest text kinds) 2)) (lines 3 (kind_at (k more rest text kinds) 3))

@@ -30,7 +30,7 @@ use Rattle.type_derive.specs.Making.{Made as Made'}
 use Rattle.sts_scope.specs.Numbers.{Numbering, numbering, numbers_from, makers_from, item_numbers}
 use Rattle.type_derive.specs.inner.FilledPrograms.{function_made, class_made, main_made, items_made, library_made}
 use Rattle.type_derive.specs.Accepted.{known, all_sources, AreDerived, main_routine, text_failure}
-use Rattle.type_derive.specs.inner.FilledTexts.{filled}
+use Rattle.type_derive.specs.inner.FilledTexts.{filled_program}
 use Rattle.typed_laws.specs.Stands.{IsProper}
 use Rattle.type_derive.specs.Libraries.{OnlyFunctions, library_failure, IsLibrary}
 use Rattle.typed_laws.proofs.BuiltPrograms.{library_so}
@@ -211,7 +211,7 @@ module _ (tables : Tables) (library text : Program) (kinds : List (Option Static
     numbers = numbering (library ++ text)
 
     abbrev P : TypedProgram
-    P = filled tables library text kinds
+    P = filled_program tables library text kinds
 
     abbrev c0 : ℕ
     c0 = library_classes library text

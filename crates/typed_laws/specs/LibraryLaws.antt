@@ -10,7 +10,7 @@ use Rattle.sts_syntax.specs.Weights.{routines_weight}
 use Rattle.sts_scope.specs.declared.kinds.StaticType.{StaticType}
 use Rattle.sts_scope.specs.Rules.{kind_at}
 use Rattle.type_derive.specs.Accepted.{known, AreDerived}
-use Rattle.type_derive.specs.inner.FilledTexts.{filled}
+use Rattle.type_derive.specs.inner.FilledTexts.{filled_program}
 use Rattle.type_derive.specs.Libraries.{IsLibrary}
 use Rattle.sts_grammar.specs.Texts.{no_entries}
 use Rattle.sts_prelude.specs.inner.Library.{library}
@@ -61,7 +61,7 @@ TypedLibraryIsLight =
     → IsDistinct first.names → IsDistinct first.texts
     → IsTokenization first LIBRARY.now tokens
     → AreDerived (record { names = first.names ++ names; texts = first.texts ++ texts }) (library tokens) text kinds
-    → routines_weight (take library_size (filled (record { names = first.names ++ names; texts = first.texts ++ texts })
+    → routines_weight (take library_size (filled_program (record { names = first.names ++ names; texts = first.texts ++ texts })
     (library tokens) text kinds).functions) ≤ 600
 
 -- Where no entry stood before, the library's text has tokens that spell a tree, and its names and its text are distinct.

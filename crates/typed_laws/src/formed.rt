@@ -9,7 +9,7 @@ ghost use Rattle.sts_grammar.specs.Texts.{source};
 ghost use Rattle.sts_syntax.specs.Nodes.{NamesTexts};
 ghost use Rattle.sts_scope.specs.declared.kinds.StaticType.{StaticType};
 ghost use Rattle.type_derive.specs.Formed.{IsFormedProgram, TextsBelow};
-ghost use Rattle.type_derive.specs.inner.FilledTexts.{filled};
+ghost use Rattle.type_derive.specs.inner.FilledTexts.{filled_program};
 
 /// A program that the tokens of a text spell is formed: its numbers have 32 bits, `++` and `--` are by one, `break` and `continue` stand in
 /// loops, and first in the head of a `for` stands a declaration or an expression.
@@ -25,5 +25,5 @@ pub fn spelled_programs_are_formed()
 /// The texts of a typed program are those of the library and the text that it is made of.
 pub fn typed_programs_name_texts_of_their_trees()
     ensures { (n : ℕ) (tables : Tables) (library text : Program) (kinds : List (Option StaticType))
-        → TextsBelow n library → TextsBelow n text → NamesTexts n (filled tables library text kinds) }
+        → TextsBelow n library → TextsBelow n text → NamesTexts n (filled_program tables library text kinds) }
 {}

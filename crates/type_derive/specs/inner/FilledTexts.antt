@@ -12,8 +12,8 @@ use Rattle.type_derive.specs.Derived.{TypeTable}
 use Rattle.type_derive.specs.Limits.{limits_failure}
 use Rattle.type_derive.specs.inner.FilledPrograms.{items_made, library_made, class_entries, global_types}
 
-abbrev pub filled : Tables → Program → Program → TypeTable → TypedProgram
-filled tables library text kinds =
+abbrev pub filled_program : Tables → Program → Program → TypeTable → TypedProgram
+filled_program tables library text kinds =
     let names = all_names library text in
     let k = known library text kinds in
     let numbers = numbering (library ++ text) in
@@ -30,13 +30,13 @@ filled tables library text kinds =
 -- the first failure of all passes, where the counted limits are those of the filled program
 abbrev pub filled_refusal : Tables → Program → Program → TypeTable → Option Failure
 filled_refusal tables library text kinds =
-    text_failure tables library text kinds then limits_failure tables.texts (filled tables library text kinds)
+    text_failure tables library text kinds then limits_failure tables.texts (filled_program tables library text kinds)
 
 -- a text is accepted, as this filled program
 abbrev pub IsFilled : Tables → Program → Program → TypedProgram → Type 0
 IsFilled tables library text p =
     (kinds : TypeTable) × AreDerived tables library text kinds
-    × (filled_refusal tables library text kinds ≡ None) × (p ≡ filled tables library text kinds)
+    × (filled_refusal tables library text kinds ≡ None) × (p ≡ filled_program tables library text kinds)
 
 -- a text is refused, with this failure
 abbrev pub IsUnfilled : Tables → Program → Program → Failure → Type 0

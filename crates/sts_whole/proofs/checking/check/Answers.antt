@@ -4,7 +4,7 @@ use Rattle.sts_base.specs.declared.refused.Refused.{Refused}
 use Rattle.sts_syntax.specs.Programs.{program}
 use Rattle.sts_syntax.specs.TypedTrees.{TypedProgram}
 use Rattle.sts_syntax.specs.TypedViews.{typed_program}
-use Rattle.type_derive.specs.inner.FilledTexts.{filled}
+use Rattle.type_derive.specs.inner.FilledTexts.{filled_program}
 use Rattle.type_derive.specs.Solved.{IsSolved}
 use Rattle.sts_whole.specs.Checking.{RefusesTrees}
 use Rattle.sts_whole.proofs.Checked.{text_behind, heading_refused, found_refused, counts_refused, limits_refused, accepted}
@@ -64,7 +64,7 @@ returns-in_err-check_limits-clause-refused c =
     let why = err_from_is_err_and c.from_residual-in_err-check_limits.result c.from_residual-in_err-check_limits.ensures.1 in
     let s : IsSolved tables library text c.solve.new.declared =
     subst (λ r. OnOk r (IsSolved tables library text c.solve.new.declared)) c.in_ok-or_no_memory.ensures.ok c.solve.ensures in
-    let p : TypedProgram = filled tables library text c.solve.new.declared.known.kinds in
+    let p : TypedProgram = filled_program tables library text c.solve.new.declared.known.kinds in
     let is : typed_program c.in_ok-typed.typed ≡ p =
     subst (λ r. IfOk r (λ t. typed_program t ≡ p)) c.in_ok-typed.ensures.ok c.typed_of.ensures in
     rw (why.1) (subst (λ (w : Refused). RefusesTrees w tables library text) (sym (why.2))
@@ -78,7 +78,7 @@ returns-clause-accepted c =
     let text = program c.args.text.now in
     let s : IsSolved tables library text c.solve.new.declared =
     subst (λ r. OnOk r (IsSolved tables library text c.solve.new.declared)) c.in_ok-or_no_memory.ensures.ok c.solve.ensures in
-    let p : TypedProgram = filled tables library text c.solve.new.declared.known.kinds in
+    let p : TypedProgram = filled_program tables library text c.solve.new.declared.known.kinds in
     let is : typed_program c.in_ok-typed.typed ≡ p =
     subst (λ r. IfOk r (λ t. typed_program t ≡ p)) c.in_ok-typed.ensures.ok c.typed_of.ensures in
     accepted tables library text c.solve.new.declared s c.in_ok-declared.ensures.found c.in_ok-find_failure.ensures
