@@ -87,7 +87,7 @@ impl<R: Files + Drop> Folder for DiskFolder<R> {
         ensures missing { (result ≡ Ok Found.Missing) ↔ (self.new.met ≡ Some ErrorKind.NotFound) }
         ensures later { self.old.faults ≤ self.new.faults }
         ensures failed { IsErrOf result FetchFault.Failed → Rose self.old.faults self.new.faults }
-        ensures uncounted { IfOk result (λ found. self.new.faults ≡ self.old.faults) }
+        ensures uncounted { (IsErrOf result FetchFault.Failed → ⊥) → self.new.faults ≡ self.old.faults }
     {
         self.met = None;
         match note(alloc, &mut self.asked, name) {

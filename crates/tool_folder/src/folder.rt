@@ -40,7 +40,7 @@ pub trait Folder {
     ghost faults: { Self → ℕ };
 
     /// The file of that name, if it has at most `limit` bytes. Its answer agrees with what the folder tells, and the
-    /// content of the folder stays. `Failed` comes only where the count of faults rose. Whatever the answer, the name is noted; but for `NoMemory`,
+    /// content of the folder stays. `Failed` comes only where the count of faults rose, and with every other answer the count is as it was. Whatever the answer, the name is noted; but for `NoMemory`,
     /// where there may have been none for that.
     fn fetch(&mut self, alloc: Global, name: &str, limit: usize) -> Result<Found, FetchFault>
         ensures content { IfOk result
@@ -49,5 +49,6 @@ pub trait Folder {
         ensures stays { (file : List ℕ) → holds self.new file ≡ holds self.old file }
         ensures noted { HasNoted (asked self.old) (asked self.new) name.now (IsErrOf result FetchFault.NoMemory) }
         ensures later { faults self.old ≤ faults self.new }
-        ensures failed { IsErrOf result FetchFault.Failed → Rose (faults self.old) (faults self.new) };
+        ensures failed { IsErrOf result FetchFault.Failed → Rose (faults self.old) (faults self.new) }
+        ensures uncounted { (IsErrOf result FetchFault.Failed → ⊥) → faults self.new ≡ faults self.old };
 }
