@@ -11,8 +11,6 @@ use Rattle.board_world.specs.Observations.{ByteList}
 use Rattle.board_world.specs.Board.{Board}
 use Rattle.board_world.specs.Simulation.{Paired}
 use Rattle.bank_model.specs.Fibers.{Fiber, Shared}
-use Rattle.sts_meaning.specs.Frames.{Activity}
-use Rattle.sts_meaning.specs.Heaps.{Heap}
 use Rattle.sts_implements.specs.Images.{instructions_of_a_step}
 use Rattle.event_script.specs.declared.script.Script.{Script}
 use Rattle.event_script.specs.Sound.{IsSound}
@@ -36,8 +34,8 @@ use Rattle.run_tool.specs.Fetches.{ToldFiles}
 use Rattle.run_tool.specs.inner.Giving.{GivesOneOf}
 use Rattle.run_tool.specs.ClassBoards.{BoardSource, OverBoard, OverBoards}
 use Rattle.run_tool.specs.inner.Nothing.{none_to_read}
-use Rattle.run_tool.specs.inner.ClassReady.{IsBuiltAs, IsSourceOf, HasAdded, AreReady}
-use Rattle.run_tool.specs.Class.{source_member, class_of_sources, status_by, class_status, RunsWhole, RunsCut, RunsClass}
+use Rattle.run_tool.specs.inner.ClassReady.{IsSourceOf, HasAdded, AreReady}
+use Rattle.run_tool.specs.Class.{source_member, IsBuiltAs, ImagesRun, status_by, class_status, RunsWhole, RunsCut, RunsClass}
 use Rattle.run_tool.specs.inner.Finishing.{ending_of_class}
 use Rattle.run_tool.proofs.Readings.{IsOnward, fetch-onwards}
 use Rattle.run_tool.proofs.ClassAnswers.{boards-stop, board-onwards, script-onwards, source-onwards}
@@ -76,7 +74,7 @@ module _ (before mid now : ToldFiles) (until : ℕ) (was : IsOnward before now) 
         accepted = b.accepted;
         script = script-onwards mid now until on n.script h.more.script h.more.is;
       } in
-      let made : IsBuiltAs board (record { image = h.image.items; script = h.more.script }) = record { implements = b.implements; script = refl } in
+      let made : IsBuiltAs board (record { image = h.image.items; script = h.more.script }) = record { is_image = h.flashed; implements = b.implements; script = refl } in
       let as_many : length old.scripts.items ≡ length old.images.items = r.can_run.as_many in
       let setups : setups_of new.images.items new.scripts.items ≡ setups_of old.images.items old.scripts.items ++ record { image = h.image.items; script = h.more.script } ∷ [] =
       ap (λ (xs : List (Vec ℕ Global)). setups_of xs new.scripts.items) h.more.images ∙ ap (λ (ys : List Script). setups_of (old.images.items ++ h.image ∷ []) ys) h.more.scripts
@@ -149,38 +147,39 @@ module _ (class : ClassFile) (sources : List BoardSource) (setups : List Setup) 
   abbrev Below : List (List ℕ) → world.Class Fiber Shared
   Below frees = class_of_parts setups class.lose class.end frees
 
-  abbrev Above : world.Class Activity Heap
-  Above = class_of_sources class sources
+  -- so runs the class of their images
+  images-run : (frees : List (List ℕ)) (runs : world.Class Fiber Shared → Type 0) → runs (Below frees) → ImagesRun class sources runs
+  images-run frees runs h = record { setups = setups; built = made; frees = frees; run = h }
 
   -- a text of the images' class is one of the sources'
-  whole-text : (frees : List (List ℕ)) (text : ByteList) (w : HasWholeText (Below frees) budget text) → RunsWhole Above budget (says (class_status (boards_now class.end w.runs)) text)
+  whole-text : (frees : List (List ℕ)) (text : ByteList) (w : HasWholeText (Below frees) budget text) → RunsWhole class sources budget (says (class_status (boards_now class.end w.runs)) text)
   whole-text frees text w =
       (let m = means_whole instructions_of_a_step (map source_member sources) (Below frees) budget text (members-implement sources setups frees made) w in
-      record { text = text; has = m.has; is = ap (λ (bs : List Board). says (class_status bs) text) (sym m.same) })
+      record { text = text; has = m.has; images = images-run frees (λ C. HasWholeText C budget text) w; is = ap (λ (bs : List Board). says (class_status bs) text) (sym m.same) })
 
-  cut-text : (frees : List (List ℕ)) (text : ByteList) → HasSpentText (Below frees) budget text → RunsCut Above budget (says OutOfBudget text)
+  cut-text : (frees : List (List ℕ)) (text : ByteList) → HasSpentText (Below frees) budget text → RunsCut class sources budget (says OutOfBudget text)
   cut-text frees text c =
-      record { text = text; has = means_cut instructions_of_a_step (map source_member sources) (Below frees) budget text (members-implement sources setups frees made) c; is = refl }
+      record { text = text; has = means_cut instructions_of_a_step (map source_member sources) (Below frees) budget text (members-implement sources setups frees made) c; images = images-run frees (λ C. HasSpentText C budget text) c; is = refl }
 
   module _ {S : Type 0} (taken : S → Option (List ℕ)) (faults : S → ℕ) (old new : S) (later : faults old ≤ faults new) where
-    done : (panics stops : ℕ) → IsDone setups class.lose class.end budget panics stops (taken old) (taken new) → GivesOneOf taken faults old new (RunsClass Above budget) (Gave (status_by panics))
+    done : (panics stops : ℕ) → IsDone setups class.lose class.end budget panics stops (taken old) (taken new) → GivesOneOf taken faults old new (RunsClass class sources budget) (Gave (status_by panics))
     done panics stops d = record {
-      ends = (d.text, subst (λ n. RunsClass Above budget (says (status_by n) d.text)) (sym d.panicked) (inl (whole-text d.frees d.text d.has)), d.written);
+      ends = (d.text, subst (λ n. RunsClass class sources budget (says (status_by n) d.text)) (sym d.panicked) (inl (whole-text d.frees d.text d.has)), d.written);
       later = later;
       cut = λ e. absurd (cc);
     }
 
-    spent : (number : ℕ) → HasSpent setups class.lose class.end budget number (taken old) (taken new) → GivesOneOf taken faults old new (RunsClass Above budget) (Gave OutOfBudget)
+    spent : (number : ℕ) → HasSpent setups class.lose class.end budget number (taken old) (taken new) → GivesOneOf taken faults old new (RunsClass class sources budget) (Gave OutOfBudget)
     spent number d = record { ends = (d.text, inr (cut-text d.frees d.text d.has), d.written); later = later; cut = λ e. absurd (cc) }
 
-    stopped : IsStopped setups class.lose class.end budget (taken old) (taken new) → Rose (faults old) (faults new) → GivesOneOf taken faults old new (RunsClass Above budget) Cut
+    stopped : IsStopped setups class.lose class.end budget (taken old) (taken new) → Rose (faults old) (faults new) → GivesOneOf taken faults old new (RunsClass class sources budget) Cut
     stopped d rose = by_text d.is
       where
-        by_text : IsTextOf (Below d.frees) budget d.text → GivesOneOf taken faults old new (RunsClass Above budget) Cut
+        by_text : IsTextOf (Below d.frees) budget d.text → GivesOneOf taken faults old new (RunsClass class sources budget) Cut
         by_text (inl w) = record { ends = (class_status (boards_now class.end w.runs), d.text, inl (whole-text d.frees d.text w), d.written); later = later; cut = λ e. rose }
         by_text (inr w) = record { ends = (OutOfBudget, d.text, inr (cut-text d.frees d.text w), d.written); later = later; cut = λ e. rose }
 
-    pub class-ends : (e : ClassEnd) → RanClass setups class.lose class.end budget (taken old) (taken new) (faults old) (faults new) e → GivesOneOf taken faults old new (RunsClass Above budget) (ending_of_class e)
+    pub class-ends : (e : ClassEnd) → RanClass setups class.lose class.end budget (taken old) (taken new) (faults old) (faults new) e → GivesOneOf taken faults old new (RunsClass class sources budget) (ending_of_class e)
     class-ends (end.Done panics stops) r = done panics stops r
     class-ends (end.Budget number) r = spent number r
     class-ends end.SinkFault r = stopped r.0 r.1

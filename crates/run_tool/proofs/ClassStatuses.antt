@@ -1,14 +1,11 @@
 -- The statuses of answers over a class.
-use Rattle.std.proofs.Common.{◌≡◌, ◌⊎◌, ◌==◌, ℕ, suc, List, [], ◌∷◌, inl, inr, refl, sym, ap, ◌∙◌}
+use Rattle.std.proofs.Common.{◌≡◌, ◌⊎◌, ℕ, suc, List, [], ◌∷◌, inl, inr, sym, ap, ◌∙◌}
 use Rattle.std.specs.Prelude.{Bool, true, false, if◌then◌else◌}
 use Rattle.std.proofs.lemmas.Bool.{false≢true}
 use Rattle.sts_base.specs.declared.tables.Tables.{Tables}
 use Rattle.sts_syntax.specs.TypedTrees.{TypedProgram}
-use Rattle.sts_meaning.specs.Frames.{Activity}
-use Rattle.sts_meaning.specs.Heaps.{Heap}
 use Rattle.event_script.specs.declared.script.Script.{Script}
 use Rattle.class_file.specs.declared.class.Names.{Names}
-use Rattle.class_world.specs.Classes.{Class}
 use Rattle.run_tool.specs.declared.ending.Status.{Status}
 use Rattle.run_tool.specs.declared.ending.Status.TheVariants as status
 use Rattle.run_tool.specs.declared.fetched.Fetched.{Fetched}
@@ -17,19 +14,13 @@ use Rattle.run_tool.specs.Fetches.{ToldFiles, MayFetch}
 use Rattle.run_tool.specs.Answers.{Answer, status_of, status_number}
 use Rattle.run_tool.specs.Files.{AnswersFetched, AnswersFile}
 use Rattle.run_tool.specs.ClassBoards.{BoardSource, OverBoardProgram, Unfit, no_script, other_end, TellsUnfit, AnswersBoardScript, OverBoardScript, OverBoard, OverBoards}
-use Rattle.run_tool.specs.Class.{class_of_sources, status_by, RunsClass, RunsClassText}
+use Rattle.class_file.specs.declared.class.ClassFile.{ClassFile}
+use Rattle.run_tool.specs.Class.{RunsClass, RunsClassText}
 
--- the number of a class's status, whose runs have all ended
-pub status-by-number : (panics : ℕ) → status_number (status_by panics) ≡ (if panics == 0 then 0 else 3)
-status-by-number panics = by_test (panics == 0)
-  where
-    by_test : (b : Bool) → status_number (if b then status.Done else status.Panicked) ≡ (if b then 0 else 3)
-    by_test true = refl
-    by_test false = refl
-
-pub class-number : (C : Class Activity Heap) (budget : ℕ) (answer : Answer) (number : ℕ) → RunsClass C budget answer → number ≡ status_number (status_of answer) → (number ≡ 0) ⊎ ((number ≡ 3) ⊎ (number ≡ 4))
-class-number C budget answer number (inr r) e = inr (inr (e ∙ ap (λ a. status_number (status_of a)) r.is))
-class-number C budget answer number (inl r) e = by_test _ (e ∙ ap (λ a. status_number (status_of a)) r.is)
+-- the number of a class's status
+pub class-number : (file : ClassFile) (boards : List BoardSource) (budget : ℕ) (answer : Answer) (number : ℕ) → RunsClass file boards budget answer → number ≡ status_number (status_of answer) → (number ≡ 0) ⊎ ((number ≡ 3) ⊎ (number ≡ 4))
+class-number file boards budget answer number (inr r) e = inr (inr (e ∙ ap (λ a. status_number (status_of a)) r.is))
+class-number file boards budget answer number (inl r) e = by_test _ (e ∙ ap (λ a. status_number (status_of a)) r.is)
   where
     by_test : (b : Bool) → number ≡ status_number (if b then status.Done else status.Panicked) → (number ≡ 0) ⊎ ((number ≡ 3) ⊎ (number ≡ 4))
     by_test true h = inl h
@@ -78,9 +69,9 @@ module _ (t : Status → Bool) (missing : t status.Missing ≡ false) (long : t 
       in-board until b n (λ board. OverBoards files until (suc b) names (λ boards. answers (board ∷ boards)))
       (λ board x. in-boards until (suc b) names (λ boards. answers (board ∷ boards)) (λ boards y. of_boards (board ∷ boards) y) x) h
 
-  in-run : (C : Class Activity Heap) (budget : ℕ) → RunsClass C budget answer → Failed_so
-  in-run C budget (inr r) = absurd (other status.OutOfBudget cut (ap status_of r.is))
-  in-run C budget (inl r) = absurd (by_test _ (ap status_of r.is))
+  in-run : (file : ClassFile) (boards : List BoardSource) (budget : ℕ) → RunsClass file boards budget answer → Failed_so
+  in-run file boards budget (inr r) = absurd (other status.OutOfBudget cut (ap status_of r.is))
+  in-run file boards budget (inl r) = absurd (by_test _ (ap status_of r.is))
     where
       by_test : (b : Bool) → status_of answer ≡ (if b then status.Done else status.Panicked) → ⊥
       by_test true e = other status.Done done e
@@ -88,5 +79,5 @@ module _ (t : Status → Bool) (missing : t status.Missing ≡ false) (long : t 
 
   pub in-class : (budget : ℕ) (text : List ℕ) → RunsClassText files budget text answer → Failed_so
   in-class budget text (inl x) =
-      in-boards x.0.end 0 x.0.boards (λ boards. RunsClass (class_of_sources x.0 boards) budget) (λ boards y. in-run (class_of_sources x.0 boards) budget y) x.2
+      in-boards x.0.end 0 x.0.boards (λ boards. RunsClass x.0 boards budget) (λ boards y. in-run x.0 boards budget y) x.2
   in-class budget text (inr x) = absurd (other status.ClassRefused class (ap status_of x.2))

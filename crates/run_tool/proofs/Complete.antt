@@ -21,7 +21,6 @@ use Rattle.run_tool.proofs.ProgramStatuses.{program-number, run-number as progra
 use Rattle.run_tool.proofs.ToldAt.{due}
 use Rattle.run_tool.proofs.ToldClass.{class-due}
 use Rattle.run_tool.proofs.ClassStatuses.{class-number}
-use Rattle.run_tool.specs.Class.{class_of_sources}
 use Rattle.run_tool.proofs.Statuses.{run-number}
 
 abbrev number_of : Answer → ℕ
@@ -45,7 +44,7 @@ module _ (one : OneAnswer) (told : Telling) where
       (let t = h.0 in image-status script budget t.1.0 t.0 number answer t.1.2.1 h.1 (file-told (RunsHex (unfailing told) script budget) (unfailing told) name t.1.0 answer t.1.1 t.1.2.0 never m) n)
   status (run_at name script arrivals budget) number answer h m n =
       (let r = due one told name script arrivals budget h.0 h.1 h.2 h.3 h.4 answer m in program-end _ number r.meets.faultless (n ∙ ap number_of r.is))
-  status (run_class name budget) number answer h m n = class-number (class_of_sources h.0 h.1) budget answer number (class-due one told name budget h.0 h.1 h.2 answer m) n
+  status (run_class name budget) number answer h m n = class-number h.0 h.1 budget answer number (class-due one told name budget h.0 h.1 h.2 answer m) n
   status (run_big size budget stats) number answer h m n =
       program-number h.1 h.0.texts default_script budget stats false answer number
       (program-told one (λ P texts. OverScript (unfailing told) None (λ read. RunsProgram P texts read budget stats false)) (big_text size) h.0 h.1 answer h.2 m) n

@@ -1,5 +1,5 @@
 -- Endings that are handed on.
-use Rattle.std.proofs.Common.{◌≡◌, ◌≤◌, ℕ, List, [], inl, inr, refl, subst, arith, ◌++◌, ap, sym, ◌∙◌, append_assoc}
+use Rattle.std.proofs.Common.{◌≡◌, ◌≤◌, ℕ, List, [], inl, inr, refl, subst, arith, ◌++◌, ap, sym, ◌∙◌, append_assoc, ◌⊎◌}
 use Rattle.std.proofs.lemmas.List.{append-nil}
 use Rattle.std.specs.Prelude.{Option, Some, None, Result, Ok, Err, IfOk, IfErr}
 use Rattle.serde_json.specs.Data.{Data}
@@ -26,7 +26,7 @@ use Rattle.run_tool.specs.declared.ending.Ending.TheVariants.{Gave, Cut, NoMemor
 use Rattle.run_tool.specs.declared.fetched.Fetched.{Fetched}
 use Rattle.run_tool.specs.declared.fetched.Fetched.TheVariants.{Text, Absent, Long, Failed}
 use Rattle.run_tool.specs.Fetches.{ToldFiles, MayFetch}
-use Rattle.run_tool.specs.Answers.{Answer, says, runs, status_of, output_of, OfSink, of_sink, OfDevices, of_devices, IsAnswerCut, CommandEnds, Concludes, Led}
+use Rattle.run_tool.specs.Answers.{Answer, says, runs, status_of, output_of, ending_number, OfSink, of_sink, OfDevices, of_devices, IsAnswerCut, CommandEnds, Concludes, IsFailureTold, Led}
 use Rattle.run_tool.specs.inner.Giving.{SaysAnswer, GivesOneOf}
 use Rattle.run_tool.specs.declared.ending.Status.TheVariants.{Refused}
 use Rattle.run_tool.specs.Refusals.{AnswersRefusal, refused_line}
@@ -289,3 +289,13 @@ of-program answers text image b answer h = inl ((b.tables, b.program), b.accepte
 -- the same of outputs behind a line
 pub led-more : (lead : List ℕ) (may more : Answer → Type 0) → ((answer : Answer) → may answer → more answer) → (answer : Answer) → Led lead may answer → Led lead more answer
 led-more lead may more f answer l = (l.0, l.1, f (says l.0 l.1) l.2, l.3)
+
+-- a failure that is told of the last part of a call is told of the whole, where the folder hadn't failed before
+pub told-on : (before mid after : ℕ) (ending : Ending) → mid ≡ before → IsFailureTold mid after ending → IsFailureTold before after ending
+told-on before mid after ending e h = subst (λ n. IsFailureTold n after ending) e h
+
+-- and by the number of the ending
+pub told-number : (before after : ℕ) (ending : Ending) (number : ℕ) → number ≡ ending_number ending → IsFailureTold before after ending → (after ≡ before) ⊎ ((number ≡ 20) ⊎ (number ≡ 22))
+told-number before after ending number e (inl h) = inl h
+told-number before after ending number e (inr (inl h)) = inr (inl (e ∙ ap ending_number h))
+told-number before after ending number e (inr (inr h)) = inr (inr (e ∙ ap ending_number h))

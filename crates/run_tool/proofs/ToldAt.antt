@@ -1,20 +1,25 @@
 -- What `run-at` comes to over files that are told.
-use Rattle.std.proofs.Common.{◌≡◌, ◌⊎◌, ℕ, List, [], ◌++◌, inl, inr, refl, sym, ap, ◌∙◌, subst}
+use Rattle.std.proofs.Common.{◌≡◌, ◌≤◌, ◌⊎◌, ℕ, Bool, true, false, not, ◌&&◌, nat_le, List, [], ◌∷◌, ◌++◌, inl, inr, refl, sym, ap, ◌∙◌, subst, arith}
 use Rattle.std.specs.Prelude.{Option, Some, Result, Ok, Err}
+use Rattle.std.specs.List.{AllByRecursion}
+use Rattle.std.proofs.lemmas.Bool.Decides.{nat_tests}
 use Rattle.sts_base.specs.Faults.{Rose}
 use Rattle.sts_base.specs.declared.tables.Tables.{Tables}
 use Rattle.tool_io.specs.Putting.{Took}
 use Rattle.board_world.specs.Transcript.{lines, closing_line}
-use Rattle.board_world.specs.Board.{Board}
+use Rattle.board_world.specs.Board.{Board, over}
 use Rattle.board_world.specs.Simulation.{Paired}
-use Rattle.board_world.specs.Runs.{Placed}
+use Rattle.board_world.specs.Runs.{Arrival as WorldArrival, Placed, applied}
 use Rattle.sts_syntax.specs.TypedTrees.{TypedProgram}
 use Rattle.event_script.specs.declared.script.Script.{Script}
 use Rattle.arrival_file.specs.Verdict as arrival
+use Rattle.arrival_file.specs.World.{world_arrivals}
 use Rattle.arrival_file.specs.Form.{arrivals_of}
 use Rattle.arrival_file.specs.declared.arrival.Arrival.{Arrival}
 use Rattle.arrival_file.specs.declared.arrival.ArrivalCode.{ArrivalCode}
 use Rattle.arrival_file.specs.declared.arrival.ArrivalCode.TheVariants as arrival_code
+use Rattle.event_script.specs.World.{world_entries}
+use Rattle.irq_arrival.specs.Along.{world_with}
 use Rattle.irq_arrival.specs.SourceRuns.{source_at}
 use Rattle.sts_whole.specs.Laws.{OneAnswer}
 use Rattle.sts_words.specs.Orders.{Asked, run_at}
@@ -47,6 +52,16 @@ list-stands text come arrival_code.TooMany s r = not-both come arrival_code.TooM
 pub same-read : {T C : Type 0} (x y : T) (r : Result T C) → r ≡ Ok x → r ≡ Ok y → x ≡ y
 same-read x y r e h = cc
 
+-- those that are applied within some steps come within them
+applied-within : (board : ℕ → Board) (list : List WorldArrival) (m most : ℕ) → m ≤ most → AllByRecursion (λ (a : WorldArrival). a.count ≤ most) (applied board list m)
+applied-within board [] m most l = tt
+applied-within board (a ∷ rest) m most l = by_test (nat_le a.count m && not (over (board a.count))) refl (applied-within board rest m most l)
+  where
+    by_test : (t : Bool) → (nat_le a.count m && not (over (board a.count))) ≡ t → AllByRecursion (λ (b : WorldArrival). b.count ≤ most) (applied board rest m)
+        → AllByRecursion (λ (b : WorldArrival). b.count ≤ most) (applied board (a ∷ rest) m)
+    by_test true e others = (let come : a.count ≤ m = grind (arith, nat_tests, e) in rw e (omega (arith, come, l), others))
+    by_test false e others = rw e others
+
 module _ (one : OneAnswer) (told : Telling) (name script_name arrivals_name : List ℕ) (budget : ℕ) (tables : Tables) (P : TypedProgram) (read : Script) (come : List Arrival)
     (n : AreTold told name script_name arrivals_name tables P read come) where
   -- the answer over these arrivals
@@ -75,6 +90,7 @@ module _ (one : OneAnswer) (told : Telling) (name script_name arrivals_name : Li
             moves = r.meets.moves;
             rises = r.meets.reaches.rises;
             placed = subst (λ xs. Paired (Placed 512) xs r.meets.places) r.meets.reaches.are_first r.meets.reaches.placed;
+            within = subst (λ (xs : List WorldArrival). AllByRecursion (λ (a : WorldArrival). a.count ≤ budget) xs) r.meets.reaches.are_first (applied-within (λ n. (world_with r.image read.end (world_entries read.entries) (world_arrivals come) r.meets.free n).board) (world_arrivals come) r.meets.executed budget r.meets.reaches.is_executed.within);
             applies = r.meets.reaches.applies;
             at_most = r.meets.reaches.at_most;
             at_least = r.meets.reaches.at_least;

@@ -4,7 +4,6 @@ use Rattle.std.specs.Prelude.{Option, Some, Result, Ok}
 use Rattle.sts_base.specs.Faults.{Rose}
 use Rattle.sts_base.specs.declared.tables.Tables.{Tables}
 use Rattle.tool_io.specs.Putting.{Took}
-use Rattle.board_world.specs.Observations.{ByteList}
 use Rattle.board_world.specs.Simulation.{Paired}
 use Rattle.sts_syntax.specs.TypedTrees.{TypedProgram}
 use Rattle.event_script.specs.declared.script.Script.{Script}
@@ -23,11 +22,10 @@ use Rattle.run_tool.specs.Answers.{Answer, status_of, status_number, output_of, 
 use Rattle.run_tool.specs.Fetches.{Telling, ToldFiles, unfailing}
 use Rattle.run_tool.specs.ClassFiles.{RefusesClass}
 use Rattle.run_tool.specs.ClassBoards.{BoardSource, OverBoardProgram, Unfit, no_script, other_end, IsUnfit, AnswersBoardScript, OverBoardScript, OverBoard, OverBoards}
-use Rattle.run_tool.specs.Class.{class_of_sources, RunsClass, RunsFile, RunsClassText}
+use Rattle.run_tool.specs.Class.{RunsClass, RunsFile, RunsClassText}
 use Rattle.run_tool.specs.Orders.{MayAnswer, lead_of}
-use Rattle.run_tool.specs.HeadlineClass.{IsToldBoard, IsToldClass, WritesWhole, WritesCut, HeadlineClass}
+use Rattle.run_tool.specs.HeadlineClass.{IsToldBoard, IsToldClass, HeadlineClass}
 use Rattle.run_tool.proofs.Completing.{onwards}
-use Rattle.run_tool.proofs.ClassStatuses.{status-by-number}
 use Rattle.run_tool.proofs.Headlines.{one-tree, one-script, not-refused, file-told, program-fits, never}
 use Rattle.run_tool.proofs.ToldAt.{not-both, same-read}
 
@@ -78,37 +76,32 @@ module _ (one : OneAnswer) (told : Telling) (until : ℕ) where
       boards-due (suc b) names boards (λ bs. answers (s ∷ bs)) answer p.1 (board-due b n s (λ board. OverBoards (unfailing told) until (suc b) names (λ bs. answers (board ∷ bs))) answer p.0 h)
 
 module _ (one : OneAnswer) (told : Telling) (name : List ℕ) (budget : ℕ) (file : ClassFile) (boards : List BoardSource) (n : IsToldClass told name file boards) where
-  of-file : (answer : Answer) → RunsClassText (unfailing told) budget n.is.0 answer → RunsClass (class_of_sources file boards) budget answer
+  of-file : (answer : Answer) → RunsClassText (unfailing told) budget n.is.0 answer → RunsClass file boards budget answer
   of-file answer (inl x) =
       (let there : RunsFile (unfailing told) budget file answer =
       subst (λ (f : ClassFile). RunsFile (unfailing told) budget f answer) (same-read x.0 file (Ok file) (sym (one-class n.is.0 (Ok x.0) (Ok file) x.1 n.is.2.1)) refl) x.2 in
-      boards-due one told file.end 0 file.boards boards (λ bs. RunsClass (class_of_sources file bs) budget) answer n.are there)
+      boards-due one told file.end 0 file.boards boards (λ bs. RunsClass file bs budget) answer n.are there)
   of-file answer (inr x) = absurd (class-stands n.is.0 file x.0 n.is.2.1 x.1)
 
-  pub class-due : (answer : Answer) → MayAnswer (unfailing told) (Some (run_class name budget)) answer → RunsClass (class_of_sources file boards) budget answer
+  pub class-due : (answer : Answer) → MayAnswer (unfailing told) (Some (run_class name budget)) answer → RunsClass file boards budget answer
   class-due answer h = of-file answer (file-told (RunsClassText (unfailing told) budget) (unfailing told) name n.is.0 answer n.is.1 n.is.2.0 never h)
 
   module _ {B : Type 0} (sink : OfSink) (devices : OfDevices B) where
-    -- what a call comes to that gave this answer
+    -- what a call comes to
     abbrev Comes : ℕ → Type 0
     Comes number = (devices.after ≡ devices.before) × (((number ≡ 30) × Took sink.taken_before sink.taken_after [])
-        ⊎ ((text : ByteList) × Took sink.taken_before sink.taken_after text × (WritesWhole (class_of_sources file boards) budget text number ⊎ WritesCut (class_of_sources file boards) budget text number)))
+        ⊎ ((answer : Answer) × RunsClass file boards budget answer × (number ≡ status_number (status_of answer)) × Took sink.taken_before sink.taken_after (output_of answer)))
 
-    writes : (answer : Answer) (number : ℕ) → RunsClass (class_of_sources file boards) budget answer → Took sink.taken_before sink.taken_after (output_of answer) → Leaves devices answer → number ≡ status_number (status_of answer)
-        → Comes number
-    writes answer number (inl r) took leaves e = (
-      subst (λ a. Leaves devices a) r.is leaves,
-      inr (r.text, subst (λ a. Took sink.taken_before sink.taken_after (output_of a)) r.is took, inl (record { has = r.has; status = e ∙ (ap (λ a. status_number (status_of a)) r.is ∙ status-by-number _) })),
-    )
-    writes answer number (inr r) took leaves e = (
-      subst (λ a. Leaves devices a) r.is leaves,
-      inr (r.text, subst (λ a. Took sink.taken_before sink.taken_after (output_of a)) r.is took, inr (record { has = r.has; status = e ∙ ap (λ a. status_number (status_of a)) r.is })),
-    )
+    -- no device changes by the run of a class
+    stay : (answer : Answer) → RunsClass file boards budget answer → Leaves devices answer → devices.after ≡ devices.before
+    stay answer (inl r) leaves = subst (λ a. Leaves devices a) r.is leaves
+    stay answer (inr r) leaves = subst (λ a. Leaves devices a) r.is leaves
 
     by-ending : (rose : Type 0) (ending : Ending) (number : ℕ) → number ≡ ending_number ending → CommandEnds sink devices [] (MayAnswer (record { told = told; rose = rose }) (Some (run_class name budget))) ending
         → (ending ≡ Cut → Rose sink.faults_before sink.faults_after) → ¬ rose → ¬ Rose sink.faults_before sink.faults_after → Comes number
     by-ending rose (Gave given) number e s cut quiet calm =
-        writes s.0 number (class-due s.0 (onwards (record { told = told; rose = rose }) (unfailing told) (Some (run_class name budget)) s.0 (λ file. refl, quiet) s.1)) s.3 s.4 (e ∙ ap status_number s.2)
+        let runs = class-due s.0 (onwards (record { told = told; rose = rose }) (unfailing told) (Some (run_class name budget)) s.0 (λ file. refl, quiet) s.1) in
+        (stay s.0 runs s.4, inr (s.0, runs, e ∙ ap status_number s.2, s.3))
     by-ending rose Cut number e s cut quiet calm = absurd (calm (cut refl))
     by-ending rose NoMemory number e (inl x, p) cut quiet calm = (p, inl (e, x))
     by-ending rose NoMemory number e (inr x, p) cut quiet calm = (p, inl (e, x))

@@ -108,6 +108,10 @@ pub record Concludes {B : Type 0} (sink : OfSink) (devices : OfDevices B) (lead 
   pub later : sink.faults_before ≤ sink.faults_after
   pub cut : ending ≡ Cut → Rose sink.faults_before sink.faults_after
 
+-- The folder's count of faults is as it was before a call that ended so; or the answer says that the folder failed; or the sink cut it.
+abbrev pub IsFailureTold : (before after : ℕ) → Ending → Type 0
+IsFailureTold before after ending = (after ≡ before) ⊎ ((ending ≡ Gave FolderFailed) ⊎ (ending ≡ Cut))
+
 -- one of these outputs behind the line that the command begins with
 abbrev pub Led : List ℕ → (Answer → Type 0) → Answer → Type 0
 Led lead may answer =

@@ -5,14 +5,18 @@ use Rattle.board_world.specs.Board.{Board}
 use Rattle.sts_meaning.specs.Frames.{Activity}
 use Rattle.sts_meaning.specs.Heaps.{Heap}
 use Rattle.sts_meaning.specs.Steps.{source, empty}
-use Rattle.sts_implements.specs.Images.{instructions_of_a_step}
+use Rattle.sts_implements.specs.Images.{instructions_of_a_step, ImageImplements}
+use Rattle.bank_model.specs.Fibers.{Fiber, Shared}
+use Rattle.hex_image.specs.Laws.{IsImage}
+use Rattle.board_world.specs.Simulation.{Paired}
 use Rattle.event_script.specs.World.{world_entries}
 use Rattle.class_file.specs.declared.class.ClassFile.{ClassFile}
 use Rattle.class_world.specs.Classes as world
-use Rattle.class_steps.specs.Texts.{boards_now, HasWholeText}
+use Rattle.class_steps.specs.Texts.{boards_now, HasWholeText, HasSpentText}
 use Rattle.class_meaning.specs.Meaning.{HasTextCutWithin}
 use Rattle.class_radio.specs.Losses.{lost_by}
-use Rattle.class_radio.specs.Outcome.{is_panic, how_many_end}
+use Rattle.class_radio.specs.Playing.{Setup}
+use Rattle.class_radio.specs.Outcome.{class_of_parts, is_panic, how_many_end}
 use Rattle.run_tool.specs.declared.ending.Status.{Status}
 use Rattle.run_tool.specs.declared.ending.Status.TheVariants.{Done, Panicked, OutOfBudget}
 use Rattle.run_tool.specs.Answers.{Answer, says}
@@ -42,26 +46,43 @@ status_by panics = if panics == 0 then Done else Panicked
 abbrev pub class_status : List Board → Status
 class_status boards = status_by (how_many_end is_panic boards)
 
--- The answer is a class's whole text: each board's run has ended, within so many counted steps.
-pub record RunsWhole (C : world.Class Activity Heap) (budget : ℕ) (answer : Answer) : Type 0 where
-  pub text : ByteList
-  pub has : HasWholeText C budget text
-  pub is : answer ≡ says (class_status (boards_now C.until has.runs)) text
+-- an image of bytes that fits into flash implements the program of a board, and runs on the board's script
+pub record IsBuiltAs (board : BoardSource) (setup : Setup) : Type 0 where
+  pub is_image : IsImage setup.image
+  pub implements : ImageImplements board.program board.tables.texts setup.image
+  pub script : setup.script ≡ board.script
 
--- The answer is a class's text that is cut in a board's run, which hasn't ended: no board has made more counted steps than the budget, and this one has made one at least for each 512 of it.
-pub record RunsCut (C : world.Class Activity Heap) (budget : ℕ) (answer : Answer) : Type 0 where
+-- So runs, for some list of free words for each board, the class of images that implement the boards' programs.
+pub record ImagesRun (file : ClassFile) (boards : List BoardSource) (runs : world.Class Fiber Shared → Type 0)
+    : Type 0 where
+  pub setups : List Setup
+  pub built : Paired IsBuiltAs boards setups
+  pub frees : List (List ℕ)
+  pub run : runs (class_of_parts setups file.lose file.end frees)
+
+-- The answer is the class's whole text: each board's source has ended, within so many counted steps, and so has the run of each image, within so many instructions.
+pub record RunsWhole (file : ClassFile) (boards : List BoardSource) (budget : ℕ) (answer : Answer) : Type 0 where
   pub text : ByteList
-  pub has : HasTextCutWithin C instructions_of_a_step budget text
+  pub has : HasWholeText (class_of_sources file boards) budget text
+  pub images : ImagesRun file boards (λ class. HasWholeText class budget text)
+  pub is : answer ≡ says (class_status (boards_now file.end has.runs)) text
+
+-- The answer is the class's text that is cut in a board's run, which hasn't ended: no board's source has made more counted steps than the budget, and this one has made one at least for each 512 of it; no image has
+-- executed more instructions than the budget, and one that goes on has executed as many.
+pub record RunsCut (file : ClassFile) (boards : List BoardSource) (budget : ℕ) (answer : Answer) : Type 0 where
+  pub text : ByteList
+  pub has : HasTextCutWithin (class_of_sources file boards) instructions_of_a_step budget text
+  pub images : ImagesRun file boards (λ class. HasSpentText class budget text)
   pub is : answer ≡ says OutOfBudget text
 
 -- the run of a class, within a budget of instructions for each board
-abbrev pub RunsClass : world.Class Activity Heap → ℕ → Answer → Type 0
-RunsClass C budget answer = RunsWhole C budget answer ⊎ RunsCut C budget answer
+abbrev pub RunsClass : ClassFile → List BoardSource → ℕ → Answer → Type 0
+RunsClass file boards budget answer = RunsWhole file boards budget answer ⊎ RunsCut file boards budget answer
 
 -- the answers over a class, and those of `class` to a text
 abbrev pub RunsFile : ToldFiles → (budget : ℕ) → ClassFile → Answer → Type 0
 RunsFile files budget file =
-    OverBoards files file.end 0 file.boards (λ boards. RunsClass (class_of_sources file boards) budget)
+    OverBoards files file.end 0 file.boards (λ boards. RunsClass file boards budget)
 
 abbrev pub RunsClassText : ToldFiles → (budget : ℕ) → List ℕ → Answer → Type 0
 RunsClassText files budget = AnswersClassFile (RunsFile files budget)

@@ -1,5 +1,5 @@
 -- The answers over the boards of a class: their programs and scripts, in their order.
-use Rattle.std.specs.Prelude.{◌≡◌, ◌≢◌, ◌++◌, ℕ, suc, List, [], ◌∷◌, codes, Ok}
+use Rattle.std.specs.Prelude.{◌≡◌, ◌≢◌, ◌++◌, ℕ, suc, List, [], ◌∷◌, Ok}
 use Rattle.sts_base.specs.declared.tables.Tables.{Tables}
 use Rattle.class_world.specs.Lines.{board_lead}
 use Rattle.sts_syntax.specs.TypedTrees.{TypedProgram}

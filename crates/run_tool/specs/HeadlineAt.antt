@@ -1,5 +1,6 @@
 -- What `run-at P S A` comes to where nothing fails, told by the program's meaning alone.
 use Rattle.std.specs.Prelude.{◌≡◌, ◌≤◌, ◌<◌, ◌⊎◌, ◌*◌, ℕ, true, List, [], length, take, slice_get, Option, Some, Ok}
+use Rattle.std.specs.List.{AllByRecursion}
 use Rattle.sts_base.specs.declared.tables.Tables.{Tables}
 use Rattle.board_world.specs.Observations.{ByteList}
 use Rattle.board_world.specs.Board.{over, transcript_of}
@@ -28,8 +29,8 @@ pub record AreTold (told : Telling) (name script_name arrivals_name : List ℕ)
   pub arrivals : IsToldWithin told arrivals_name (λ text. Tells text (Ok come))
 
 -- The program's meaning comes so far on the script: after these counted steps, no more than the budget, and one at least for each 512 of it where it hasn't ended. The first
--- so many arrivals come behind steps that don't fall, each at most at its number and near it; each whose number is below the budget comes, unless the program has ended
--- within so many steps.
+-- so many arrivals, none past the budget, come behind steps that don't fall, each at most at its number and near it; each whose number is below the budget comes, unless the program
+-- has ended within so many steps.
 pub record ComesSoFar (P : TypedProgram) (texts : List ByteList) (read : Script) (come : List Arrival)
     (budget : ℕ) : Type 0 where
   pub steps : ℕ
@@ -37,6 +38,7 @@ pub record ComesSoFar (P : TypedProgram) (texts : List ByteList) (read : Script)
   pub moves : List Move
   pub rises : RisesTo 0 places steps
   pub placed : Paired (Placed 512) (take (length places) (world_arrivals come)) places
+  pub within : AllByRecursion (λ (a : WorldArrival). a.count ≤ budget) (take (length places) (world_arrivals come))
   pub applies : (i : ℕ) (a : WorldArrival) → slice_get (world_arrivals come) i ≡ Some a → a.count < budget
       → (i < length places) ⊎ ((over (source_at P texts read places steps).board ≡ true) × (steps ≤ a.count))
   pub at_most : steps ≤ budget

@@ -7,6 +7,7 @@ use Rattle.sts_syntax.specs.TypedTrees.{TypedProgram}
 use Rattle.event_script.specs.declared.script.Script.{Script}
 use Rattle.arrival_file.specs.declared.arrival.Arrival.{Arrival}
 use Rattle.arrival_file.specs.World.{world_arrivals}
+use Rattle.hex_image.specs.Laws.{IsImage}
 use Rattle.sts_implements.specs.Images.{ImageImplements}
 use Rattle.irq_arrival.specs.SourceRuns.{source_at, MeetsAt}
 use Rattle.run_tool.specs.Answers.{Answer, runs}
@@ -18,11 +19,12 @@ use Rattle.run_tool.specs.Arrivals.{AnswersArrivals}
 use Rattle.run_tool.specs.Programs.{OverProgram}
 
 -- The answer is the run of a program on a script, with arrivals, within a budget of instructions: what the program's source has met after some counted steps, where each arrival that
--- was applied comes at a step of the source's own, and its closing line, with the status of its end. An image implements the program, whose run with the arrivals within the budget
+-- was applied comes at a step of the source's own, and its closing line, with the status of its end. An image of bytes that fits into flash implements the program, whose run with the arrivals within the budget
 -- reaches these counted steps, for some list of free words.
 pub record RunsProgramAt (P : TypedProgram) (texts : List ByteList) (script : Script) (arrivals : List Arrival)
     (budget : ℕ) (answer : Answer) : Type 0 where
   pub image : List ℕ
+  pub is_image : IsImage image
   pub implements : ImageImplements P texts image
   pub meets : MeetsAt P texts image script (world_arrivals arrivals) budget
   pub is : (let b : Board = (source_at P texts script meets.places meets.steps).board in

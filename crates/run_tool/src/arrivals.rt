@@ -6,7 +6,7 @@ ghost use Rattle.arrival_file.specs.Codes.{number_of};
 ghost use Rattle.arrival_file.specs.Sound.{IsSound};
 ghost use Rattle.arrival_file.specs.Verdict.{Tells};
 ghost use Rattle.run_tool.specs.declared.ending.Status.TheVariants as status;
-ghost use Rattle.run_tool.specs.Answers.{says};
+ghost use Rattle.run_tool.specs.Answers.{IsFailureTold, says};
 ghost use Rattle.run_tool.specs.inner.Giving.{GivesOneOf};
 ghost use Rattle.run_tool.specs.inner.Handed.{IsArrivalsOf};
 ghost use Rattle.run_tool.specs.Arrivals.{AnswersArrivals, arrivals_refused_line};
@@ -74,6 +74,8 @@ pub fn arrivals_of<F: Folder, K: Sink>(
         (WantsFile (told_by F.holds F.faults folder.old folder.new) (IsErrOf result Ending.NoMemory)
         name.now none_behind) }
     ensures folder_later { F.faults folder.old ≤ F.faults folder.new }
+    ensures unfailed { OnOk result (F.faults folder.new ≡ F.faults folder.old) }
+    ensures failure { IfErr result (λ ending. IsFailureTold (F.faults folder.old) (F.faults folder.new) ending) }
     ensures later { K.faults out.old ≤ K.faults out.new }
 {
     match text_of(alloc, name, folder, out) {

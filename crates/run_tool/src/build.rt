@@ -6,6 +6,7 @@ ghost use Rattle.sts_syntax.specs.TypedTrees.{TypedProgram};
 ghost use Rattle.sts_implements.specs.Images.{ImageImplements};
 ghost use Rattle.sts_whole.specs.Built.{Builds};
 ghost use Rattle.sts_base.specs.Faults.{Rose};
+ghost use Rattle.run_tool.specs.Answers.{IsFailureTold};
 ghost use Rattle.run_tool.specs.inner.Giving.{GivesOneOf};
 ghost use Rattle.run_tool.specs.Programs.{OverProgram};
 ghost use Rattle.run_tool.specs.inner.Nothing.{none_to_programs};
@@ -66,6 +67,7 @@ pub fn build<F: Folder, K: Sink>(alloc: Global, name: &str, folder: &mut F, out:
     ensures asked { HasAsked F.asked folder.old folder.new
         (WantsFile (told_by F.holds F.faults folder.old folder.new) (FoundNoMemory result) name.now none_behind) }
     ensures folder_later { F.faults folder.old ≤ F.faults folder.new }
+    ensures failure { IsFailureTold (F.faults folder.old) (F.faults folder.new) result }
 {
     match text_of(alloc, name, folder, out) {
         Ok(text) => build_text(alloc, &text, out),

@@ -1,6 +1,7 @@
 // The command `check`.
 ghost use Rattle.std.specs.Prelude.{◌≡◌, ◌≤◌};
 ghost use Rattle.sts_base.specs.Faults.{Rose};
+ghost use Rattle.run_tool.specs.Answers.{IsFailureTold};
 ghost use Rattle.run_tool.specs.inner.Giving.{GivesOneOf};
 ghost use Rattle.run_tool.specs.Check.{ChecksText};
 ghost use Rattle.run_tool.specs.inner.Handed.{FoundNoMemory};
@@ -33,6 +34,7 @@ pub fn check<F: Folder, K: Sink>(alloc: Global, name: &str, folder: &mut F, out:
     ensures asked { HasAsked F.asked folder.old folder.new
         (WantsFile (told_by F.holds F.faults folder.old folder.new) (FoundNoMemory result) name.now none_behind) }
     ensures folder_later { F.faults folder.old ≤ F.faults folder.new }
+    ensures failure { IsFailureTold (F.faults folder.old) (F.faults folder.new) result }
 {
     match text_of(alloc, name, folder, out) {
         Ok(text) => check_text(alloc, &text, out),

@@ -6,11 +6,12 @@ ghost use Rattle.board_world.specs.Simulation.{Paired};
 ghost use Rattle.class_file.specs.Within.{AreTexts, IsWithinForm};
 ghost use Rattle.class_radio.specs.Outcome.{setups_of};
 ghost use Rattle.sts_words.specs.Orders.{IsBudget};
+ghost use Rattle.run_tool.specs.Answers.{IsFailureTold};
 ghost use Rattle.run_tool.specs.inner.Giving.{GivesOneOf};
 ghost use Rattle.run_tool.specs.inner.Handed.{FoundNoMemory};
 ghost use Rattle.run_tool.specs.ClassBoards.{BoardSource};
-ghost use Rattle.run_tool.specs.inner.ClassReady.{CanRun, IsBuiltAs};
-ghost use Rattle.run_tool.specs.Class.{RunsClass, RunsFile, RunsClassText, class_of_sources};
+ghost use Rattle.run_tool.specs.inner.ClassReady.{CanRun};
+ghost use Rattle.run_tool.specs.Class.{IsBuiltAs, RunsClass, RunsFile, RunsClassText};
 ghost use Rattle.run_tool.specs.inner.Finishing.{ending_of_class};
 ghost use Rattle.run_tool.specs.Wanted.{HasAsked, OrLacks, WantsBoards, WantsFile, wants_none, Onwards};
 ghost use Rattle.run_tool.specs.Fetches.{told_by};
@@ -59,7 +60,7 @@ fn run_boards<K: Sink>(
     requires budget { IsBudget budget }
     ensures { (sources : List BoardSource)
         → Paired IsBuiltAs sources (setups_of boards.images.items boards.scripts.items)
-        → GivesOneOf K.taken K.faults out.old out.new (RunsClass (class_of_sources class sources) budget) result }
+        → GivesOneOf K.taken K.faults out.old out.new (RunsClass class sources budget) result }
 {
     match run_class(
         alloc,
@@ -92,6 +93,7 @@ fn run_file<F: Folder, K: Sink>(
         (WantsBoards (told_by F.holds F.faults folder.old folder.new) (FoundNoMemory result)
         class.end class.boards wants_none) }
     ensures folder_later { F.faults folder.old ≤ F.faults folder.new }
+    ensures failure { IsFailureTold (F.faults folder.old) (F.faults folder.new) result }
 {
     match boards_of(alloc, class.end, class.boards.as_slice(), folder, out) {
         Ok(boards) => run_boards(alloc, class, boards, budget, out),
@@ -115,6 +117,7 @@ fn run_text<F: Folder, K: Sink>(
         (λ file. WantsBoards (told_by F.holds F.faults folder.old folder.new) (FoundNoMemory result)
         file.end file.boards wants_none) text.now)) }
     ensures folder_later { F.faults folder.old ≤ F.faults folder.new }
+    ensures failure { IsFailureTold (F.faults folder.old) (F.faults folder.new) result }
 {
     match class_in(alloc, text, out) {
         Ok(class) => run_file(alloc, class, budget, folder, out),
@@ -140,6 +143,7 @@ pub fn class<F: Folder, K: Sink>(
         (λ file. WantsBoards (told_by F.holds F.faults folder.old folder.new) (FoundNoMemory result)
         file.end file.boards wants_none))) }
     ensures folder_later { F.faults folder.old ≤ F.faults folder.new }
+    ensures failure { IsFailureTold (F.faults folder.old) (F.faults folder.new) result }
 {
     match text_of(alloc, name, folder, out) {
         Ok(text) => run_text(alloc, &text, budget, folder, out),

@@ -11,7 +11,7 @@ ghost use Rattle.event_script.specs.Verdict.{Tells};
 ghost use Rattle.class_file.specs.Within.{AreTexts};
 ghost use Rattle.class_file.specs.declared.class.ClassCode.TheVariants as class_code;
 ghost use Rattle.run_tool.specs.declared.ending.Status.TheVariants as status;
-ghost use Rattle.run_tool.specs.Answers.{Led, says};
+ghost use Rattle.run_tool.specs.Answers.{IsFailureTold, Led, says};
 ghost use Rattle.run_tool.specs.inner.Giving.{GivesOneOf};
 ghost use Rattle.run_tool.specs.Files.{AnswersFile};
 ghost use Rattle.run_tool.specs.inner.Nothing.{none_to_read, none_to_boards};
@@ -134,6 +134,8 @@ fn image_of<F: Folder, K: Sink>(
         (Onwards programs (λ read. wants_never)))) }
     ensures stays { (file : List ℕ) → F.holds folder.new file ≡ F.holds folder.old file }
     ensures folder_later { F.faults folder.old ≤ F.faults folder.new }
+    ensures unfailed { OnOk result (F.faults folder.new ≡ F.faults folder.old) }
+    ensures failure { IfErr result (λ ending. IsFailureTold (F.faults folder.old) (F.faults folder.new) ending) }
     ensures later { K.faults out.old ≤ K.faults out.new }
 {
     match text_of(alloc, name, folder, out) {
@@ -225,6 +227,8 @@ fn script_of<F: Folder, K: Sink>(
         (Onwards (board_scripts board.end) (λ script. wants_never)))) }
     ensures stays { (file : List ℕ) → F.holds folder.new file ≡ F.holds folder.old file }
     ensures folder_later { F.faults folder.old ≤ F.faults folder.new }
+    ensures unfailed { OnOk result (F.faults folder.new ≡ F.faults folder.old) }
+    ensures failure { IfErr result (λ ending. IsFailureTold (F.faults folder.old) (F.faults folder.new) ending) }
     ensures later { K.faults out.old ≤ K.faults out.new }
 {
     match text_of(alloc, name, folder, out) {
@@ -245,10 +249,11 @@ impl Boards {
         }
     }
 
-    /// One more board, if there is memory.
+    /// One more board, if there is memory. An image is of bytes.
     fn push(&mut self, image: Vec<u8>, script: Script) -> Result<(), Ending>
         ensures images { OnOk result (self.new.images.items ≡ self.old.images.items ++ image ∷ []) }
         ensures scripts { OnOk result (self.new.scripts.items ≡ self.old.scripts.items ++ script ∷ []) }
+        ensures bytes { All (λ byte. byte < 256) image.items }
         ensures memory { IfErr result (λ ending. ending ≡ Ending.NoMemory) }
     {
         if self.images.push(image).is_err() {
@@ -282,6 +287,8 @@ impl Boards {
             board.end (names.now ∷ []) wants_never)) }
         ensures stays { (file : List ℕ) → F.holds folder.new file ≡ F.holds folder.old file }
         ensures folder_later { F.faults folder.old ≤ F.faults folder.new }
+        ensures unfailed { OnOk result (F.faults folder.new ≡ F.faults folder.old) }
+        ensures failure { IfErr result (λ ending. IsFailureTold (F.faults folder.old) (F.faults folder.new) ending) }
         ensures later { K.faults out.old ≤ K.faults out.new }
     {
         let program = name_text(names.program.as_slice());
@@ -315,6 +322,8 @@ pub fn boards_of<F: Folder, K: Sink>(
         (WantsBoards (told_by F.holds F.faults folder.old folder.new) (FoundNoMemory ending)
         end names.now wants_never)) }
     ensures folder_later { F.faults folder.old ≤ F.faults folder.new }
+    ensures unfailed { OnOk result (F.faults folder.new ≡ F.faults folder.old) }
+    ensures failure { IfErr result (λ ending. IsFailureTold (F.faults folder.old) (F.faults folder.new) ending) }
     ensures later { K.faults out.old ≤ K.faults out.new }
 {
     let mut boards = Boards::none(alloc);

@@ -1,10 +1,10 @@
 // The top call.
-ghost use Rattle.std.specs.Prelude.{◌≡◌, ◌≤◌, List, ℕ, Some, None, map, string_bytes, IsSomeAnd};
+ghost use Rattle.std.specs.Prelude.{◌≡◌, ◌⊎◌, ◌≤◌, List, ℕ, Some, None, map, string_bytes, IsSomeAnd};
 ghost use Rattle.std.specs.declared.option.Option.{Option};
 ghost use Rattle.sts_base.specs.Faults.{Rose};
 ghost use Rattle.run_tool.specs.declared.ending.Ending.{Ending};
 ghost use Rattle.sts_words.specs.Words.{IsAskedBy};
-ghost use Rattle.run_tool.specs.Answers.{Concludes, ending_number, of_devices, of_sink};
+ghost use Rattle.run_tool.specs.Answers.{Concludes, IsFailureTold, ending_number, of_devices, of_sink};
 ghost use Rattle.run_tool.specs.Orders.{CompletesCommand, IsOfImage, IsOfProgram, NamesScript, lead_of, MayAnswer};
 ghost use Rattle.run_tool.specs.inner.Handed.{FoundNoMemory};
 ghost use Rattle.run_tool.specs.Headline.{Headline};
@@ -50,6 +50,7 @@ fn perform_order<F: Folder, K: Sink, D: Device>(
         (Wants (told_by F.holds F.faults folder.old folder.new) (FoundNoMemory result)
         (Some (order_view order.entry))) }
     ensures folder_later { F.faults folder.old ≤ F.faults folder.new }
+    ensures failure { IsFailureTold (F.faults folder.old) (F.faults folder.new) result }
 {
     match order {
         Order::Check(name) => check(alloc, name, folder, out),
@@ -109,6 +110,7 @@ fn perform<F: Folder, K: Sink, D: Device>(
         → HasAsked F.asked folder.old folder.new
         (Wants (told_by F.holds F.faults folder.old folder.new) (FoundNoMemory result) asked) }
     ensures folder_later { F.faults folder.old ≤ F.faults folder.new }
+    ensures failure { IsFailureTold (F.faults folder.old) (F.faults folder.new) result }
     ensures untouched { IsAskedBy (map string_bytes words.now) None → folder.new ≡ folder.old }
 {
     match read_command_line(alloc, words) {
@@ -151,7 +153,7 @@ fn perform<F: Folder, K: Sink, D: Device>(
 /// - 12, `image refused C`, by `run-hex` exactly where the file spells no image, with the code of the rule that it breaks first;
 /// - 13, the transcript that `fault T K A` closes, by `run-hex` exactly where the run faults within the budget, and by no other
 ///   command;
-/// - 20, `folder failed`, only where the folder's count of faults rose in this call;
+/// - 20, `folder failed`, only where the folder's count of faults rose in this call; and where that changed, the status is 20, or 22;
 /// - 21, `missing`, where the folder has no file of that name;
 /// - 22 only where the sink's count of faults rose in this call; a prefix of the output was taken, and of a run one cut of what it met is where
 ///   the output and the devices stand;
@@ -198,6 +200,7 @@ pub fn sts_main<F: Folder, K: Sink>(
     ensures faulted { (asked : Option Asked) → IsAskedBy (map string_bytes words.now) asked
         → result ≡ 13 → IsSomeAnd asked IsOfImage }
     ensures folder_failed { result ≡ 20 → Rose (F.faults folder.old) (F.faults folder.new) }
+    ensures failure_told { (F.faults folder.new ≡ F.faults folder.old) ⊎ ((result ≡ 20) ⊎ (result ≡ 22)) }
     ensures sink_failed { result ≡ 22 → Rose (K.faults out.old) (K.faults out.new) }
     ensures untouched { IsAskedBy (map string_bytes words.now) None → folder.new ≡ folder.old }
     ensures asked { (asked : Option Asked) → IsAskedBy (map string_bytes words.now) asked

@@ -1,11 +1,12 @@
 // The file that a command names.
-ghost use Rattle.std.specs.Prelude.{◌≡◌, ◌≤◌, List, ℕ, IfOk, IfErr, OnOk, ◌⊎◌, ◌++◌, ◌∷◌, [], OnErr};
+ghost use Rattle.std.specs.Prelude.{◌≡◌, ◌≤◌, List, ℕ, Ok, IfOk, IfErr, OnOk, ◌⊎◌, ◌++◌, ◌∷◌, [], OnErr};
 ghost use Rattle.run_tool.specs.inner.Handed.{FoundNoMemory, never_behind};
 ghost use Rattle.run_tool.specs.inner.Giving.{GivesOneOf};
 ghost use Rattle.run_tool.specs.inner.Nothing.{none_to_read};
 ghost use Rattle.sts_base.specs.Faults.{Rose};
 ghost use Rattle.run_tool.specs.Wanted.{HasAsked, WantsFile};
 ghost use Rattle.run_tool.specs.Fetches.{told_by, MayFetch};
+ghost use Rattle.run_tool.specs.Answers.{IsFailureTold};
 ghost use Rattle.run_tool.specs.Files.{AnswersFile};
 
 use crate::ending::{Ending, Status};
@@ -36,6 +37,7 @@ fn fetch<F: Folder>(alloc: Global, name: &str, folder: &mut F) -> Result<Fetched
         ⊎ (F.asked folder.new ≡ F.asked folder.old)) }
     ensures stays { (file : List ℕ) → F.holds folder.new file ≡ F.holds folder.old file }
     ensures later { F.faults folder.old ≤ F.faults folder.new }
+    ensures unfailed { (result ≡ Ok Fetched.Failed → ⊥) → F.faults folder.new ≡ F.faults folder.old }
 {
     match folder.fetch(alloc, name, LIMIT) {
         Ok(Found::Whole(text)) => Ok(Fetched::Text(text)),
@@ -63,6 +65,8 @@ pub fn text_of<F: Folder, K: Sink>(
         (WantsFile (told_by F.holds F.faults folder.old folder.new) (FoundNoMemory ending) name.now never_behind)) }
     ensures stays { (file : List ℕ) → F.holds folder.new file ≡ F.holds folder.old file }
     ensures folder_later { F.faults folder.old ≤ F.faults folder.new }
+    ensures unfailed { OnOk result (F.faults folder.new ≡ F.faults folder.old) }
+    ensures failure { IfErr result (λ ending. IsFailureTold (F.faults folder.old) (F.faults folder.new) ending) }
     ensures later { K.faults out.old ≤ K.faults out.new }
 {
     match fetch(alloc, name, folder) {

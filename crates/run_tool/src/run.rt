@@ -13,7 +13,7 @@ ghost use Rattle.event_script.specs.Sound.{IsSound};
 ghost use Rattle.sts_implements.specs.Images.{ImageImplements};
 ghost use Rattle.sts_words.specs.Orders.{IsBudget};
 ghost use Rattle.sts_words.specs.Views.{spoken};
-ghost use Rattle.run_tool.specs.Answers.{Concludes, of_devices, of_sink};
+ghost use Rattle.run_tool.specs.Answers.{Concludes, IsFailureTold, of_devices, of_sink};
 ghost use Rattle.run_tool.specs.inner.Handed.{FoundNoMemory};
 ghost use Rattle.run_tool.specs.Scripts.{OverScript};
 ghost use Rattle.run_tool.specs.inner.Finishing.{ending_of, FinishesRun, counted_behind};
@@ -211,6 +211,7 @@ fn run_named<F: Folder, K: Sink, D: Device>(
         (WantsScript (told_by F.holds F.faults folder.old folder.new) (FoundNoMemory result)
         (option_map spoken asked.entry.script) wants_none) }
     ensures folder_later { F.faults folder.old ≤ F.faults folder.new }
+    ensures failure { IsFailureTold (F.faults folder.old) (F.faults folder.new) result }
 {
     match script_of(alloc, asked.script, folder, out) {
         Ok(script) => run_program(alloc, image, script, asked.options, out, places),
@@ -237,6 +238,7 @@ fn run_text<F: Folder, K: Sink, D: Device>(
         (λ read. WantsScript (told_by F.holds F.faults folder.old folder.new) (FoundNoMemory result)
         (option_map spoken asked.entry.script) wants_none) text.now)) }
     ensures folder_later { F.faults folder.old ≤ F.faults folder.new }
+    ensures failure { IsFailureTold (F.faults folder.old) (F.faults folder.new) result }
 {
     match image_of(alloc, text, out) {
         Ok(image) => run_named(alloc, image, asked, folder, out, places),
@@ -265,6 +267,7 @@ pub fn run<F: Folder, K: Sink, D: Device>(
         (λ read. WantsScript (told_by F.holds F.faults folder.old folder.new) (FoundNoMemory result)
         (option_map spoken asked.entry.script) wants_none))) }
     ensures folder_later { F.faults folder.old ≤ F.faults folder.new }
+    ensures failure { IsFailureTold (F.faults folder.old) (F.faults folder.new) result }
 {
     match text_of(alloc, name, folder, out) {
         Ok(text) => run_text(alloc, &text, asked, folder, out, places),

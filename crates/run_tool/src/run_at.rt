@@ -1,5 +1,5 @@
 // The command `run-at`.
-ghost use Rattle.std.specs.Prelude.{◌≡◌, ◌≤◌, ℕ, List, [], vec_len};
+ghost use Rattle.std.specs.Prelude.{◌≡◌, ◌≤◌, ℕ, List, [], vec_len, ◌<◌, All};
 ghost use Rattle.sts_base.specs.Faults.{Rose};
 ghost use Rattle.board_world.specs.Observations.{ByteList};
 ghost use Rattle.thumb_code.specs.Map.{flash_end};
@@ -8,7 +8,7 @@ ghost use Rattle.event_script.specs.Sound as script_sound;
 ghost use Rattle.arrival_file.specs.Sound.{IsSound};
 ghost use Rattle.sts_implements.specs.Images.{ImageImplements};
 ghost use Rattle.sts_words.specs.Orders.{IsBudget};
-ghost use Rattle.run_tool.specs.Answers.{Concludes, of_devices, of_sink};
+ghost use Rattle.run_tool.specs.Answers.{Concludes, IsFailureTold, of_devices, of_sink};
 ghost use Rattle.run_tool.specs.inner.Handed.{FoundNoMemory};
 ghost use Rattle.run_tool.specs.RunAt.{RunsProgramAt, RunsOnScript, RunsOutside, RunsTextAt};
 ghost use Rattle.run_tool.specs.Wanted.{HasAsked, Onwards, OrLacks, WantsFile, WantsOutside, none_behind};
@@ -64,6 +64,7 @@ fn run_board_at<K: Sink, D: Device>(
     places: &mut Vec<Option<D>>,
 ) -> Ending
     requires size { vec_len setup.image ≤ flash_end }
+    requires bytes { All (λ byte. byte < 256) setup.image.items }
     requires script { script_sound.IsSound setup.script }
     requires arrivals { IsSound arrivals.now }
     requires budget { IsBudget budget }
@@ -96,6 +97,7 @@ fn run_on_script<F: Folder, K: Sink, D: Device>(
     places: &mut Vec<Option<D>>,
 ) -> Ending
     requires size { vec_len setup.image ≤ flash_end }
+    requires bytes { All (λ byte. byte < 256) setup.image.items }
     requires script { script_sound.IsSound setup.script }
     requires budget { IsBudget asked.budget }
     ensures answer { (P : TypedProgram) (texts : List ByteList) → ImageImplements P texts setup.image.items
@@ -107,6 +109,7 @@ fn run_on_script<F: Folder, K: Sink, D: Device>(
         (WantsFile (told_by F.holds F.faults folder.old folder.new) (FoundNoMemory result)
         asked.entry.outside.arrivals.now none_behind) }
     ensures folder_later { F.faults folder.old ≤ F.faults folder.new }
+    ensures failure { IsFailureTold (F.faults folder.old) (F.faults folder.new) result }
 {
     match arrivals_of(alloc, asked.outside.arrivals, folder, out) {
         Ok(arrivals) => run_board_at(alloc, setup, &arrivals, asked.budget, out, places),
@@ -134,6 +137,7 @@ fn run_outside<F: Folder, K: Sink, D: Device>(
         (WantsOutside (told_by F.holds F.faults folder.old folder.new) (FoundNoMemory result)
         asked.entry.outside.script.now asked.entry.outside.arrivals.now) }
     ensures folder_later { F.faults folder.old ≤ F.faults folder.new }
+    ensures failure { IsFailureTold (F.faults folder.old) (F.faults folder.new) result }
 {
     match script_of(alloc, Some(asked.outside.script), folder, out) {
         Ok(script) => {
@@ -163,6 +167,7 @@ fn run_text_at<F: Folder, K: Sink, D: Device>(
         (λ read. WantsOutside (told_by F.holds F.faults folder.old folder.new) (FoundNoMemory result)
         asked.entry.outside.script.now asked.entry.outside.arrivals.now) text.now)) }
     ensures folder_later { F.faults folder.old ≤ F.faults folder.new }
+    ensures failure { IsFailureTold (F.faults folder.old) (F.faults folder.new) result }
 {
     match image_of(alloc, text, out) {
         Ok(image) => run_outside(alloc, image, asked, folder, out, places),
@@ -191,6 +196,7 @@ pub fn run_at<F: Folder, K: Sink, D: Device>(
         (λ read. WantsOutside (told_by F.holds F.faults folder.old folder.new) (FoundNoMemory result)
         asked.entry.outside.script.now asked.entry.outside.arrivals.now))) }
     ensures folder_later { F.faults folder.old ≤ F.faults folder.new }
+    ensures failure { IsFailureTold (F.faults folder.old) (F.faults folder.new) result }
 {
     match text_of(alloc, name, folder, out) {
         Ok(text) => run_text_at(alloc, &text, asked, folder, out, places),

@@ -9,7 +9,7 @@ ghost use Rattle.event_script.specs.Sound.{IsSound};
 ghost use Rattle.sts_words.specs.Orders.{IsBudget};
 ghost use Rattle.sts_words.specs.Views.{spoken};
 ghost use Rattle.run_tool.specs.declared.ending.Status.TheVariants as status;
-ghost use Rattle.run_tool.specs.Answers.{Concludes, of_devices, of_sink, says};
+ghost use Rattle.run_tool.specs.Answers.{Concludes, IsFailureTold, of_devices, of_sink, says};
 ghost use Rattle.run_tool.specs.inner.Giving.{GivesOneOf};
 ghost use Rattle.run_tool.specs.inner.Handed.{FoundNoMemory};
 ghost use Rattle.run_tool.specs.Scripts.{OverScript};
@@ -117,6 +117,7 @@ fn run_named<F: Folder, K: Sink, D: Device>(
         (WantsScript (told_by F.holds F.faults folder.old folder.new) (FoundNoMemory result)
         (option_map spoken asked.entry.script) wants_none) }
     ensures folder_later { F.faults folder.old ≤ F.faults folder.new }
+    ensures failure { IsFailureTold (F.faults folder.old) (F.faults folder.new) result }
 {
     match script_of(alloc, asked.script, folder, out) {
         Ok(script) => run_board(alloc, image, script, asked.budget, out, places),
@@ -143,6 +144,7 @@ fn run_hex_text<F: Folder, K: Sink, D: Device>(
         (λ image. WantsScript (told_by F.holds F.faults folder.old folder.new) (FoundNoMemory result)
         (option_map spoken asked.entry.script) wants_none) text.now)) }
     ensures folder_later { F.faults folder.old ≤ F.faults folder.new }
+    ensures failure { IsFailureTold (F.faults folder.old) (F.faults folder.new) result }
 {
     match read_hex(alloc, text) {
         Ok(image) => run_named(alloc, image, asked, folder, out, places),
@@ -174,6 +176,7 @@ pub fn run_hex<F: Folder, K: Sink, D: Device>(
         (λ image. WantsScript (told_by F.holds F.faults folder.old folder.new) (FoundNoMemory result)
         (option_map spoken asked.entry.script) wants_none))) }
     ensures folder_later { F.faults folder.old ≤ F.faults folder.new }
+    ensures failure { IsFailureTold (F.faults folder.old) (F.faults folder.new) result }
 {
     match text_of(alloc, name, folder, out) {
         Ok(text) => run_hex_text(alloc, &text, asked, folder, out, places),

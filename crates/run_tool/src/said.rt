@@ -1,5 +1,5 @@
 // Answers of one line.
-ghost use Rattle.std.specs.Prelude.{◌≡◌, ◌≤◌, ◌<◌, ◌++◌, List, ℕ, length};
+ghost use Rattle.std.specs.Prelude.{◌≡◌, ◌⊎◌, ◌≤◌, ◌<◌, ◌++◌, List, ℕ, length};
 ghost use Rattle.std.specs.declared.option.Option.{Option};
 ghost use Rattle.sts_base.specs.Numbers.{number_of};
 ghost use Rattle.sts_whole.specs.Accepting as accepting;
@@ -17,7 +17,8 @@ use tool_io::{PutFailed, Sink, then_put, then_put_decimal};
 
 /// Gives an answer of one line.
 pub fn say<K: Sink>(out: &mut K, status: Status, line: &[u8]) -> Ending
-    ensures { GivesOneOf K.taken K.faults out.old out.new (λ answer. answer ≡ says status line.now) result }
+    ensures answer { GivesOneOf K.taken K.faults out.old out.new (λ answer. answer ≡ says status line.now) result }
+    ensures ending { (result ≡ Ending.Gave status) ⊎ (result ≡ Ending.Cut) }
 {
     match out.put(line) {
         Ok(()) => Ending::Gave(status),

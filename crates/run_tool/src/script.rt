@@ -8,7 +8,7 @@ ghost use Rattle.event_script.specs.Sound.{IsSound};
 ghost use Rattle.event_script.specs.Verdict.{Tells};
 ghost use Rattle.sts_words.specs.Views.{spoken};
 ghost use Rattle.run_tool.specs.declared.ending.Status.TheVariants as status;
-ghost use Rattle.run_tool.specs.Answers.{says};
+ghost use Rattle.run_tool.specs.Answers.{IsFailureTold, says};
 ghost use Rattle.run_tool.specs.inner.Giving.{GivesOneOf};
 ghost use Rattle.run_tool.specs.Scripts.{AnswersScript, OverScript, default_script, script_refused_line};
 ghost use Rattle.run_tool.specs.inner.Handed.{IsScriptOf, FoundNoMemory, names_given, wants_never};
@@ -94,6 +94,8 @@ pub fn script_of<F: Folder, K: Sink>(
         (option_map spoken name.entry) wants_never)) }
     ensures stays { (file : List ℕ) → F.holds folder.new file ≡ F.holds folder.old file }
     ensures folder_later { F.faults folder.old ≤ F.faults folder.new }
+    ensures unfailed { OnOk result (F.faults folder.new ≡ F.faults folder.old) }
+    ensures failure { IfErr result (λ ending. IsFailureTold (F.faults folder.old) (F.faults folder.new) ending) }
     ensures later { K.faults out.old ≤ K.faults out.new }
 {
     match name {

@@ -8,20 +8,15 @@ use Rattle.event_script.specs.declared.script.Script.{Script}
 use Rattle.event_script.specs.Sound.{IsSound}
 use Rattle.event_script.specs.Verdict.{Tells}
 use Rattle.class_file.specs.declared.class.Names.{Names}
-use Rattle.class_radio.specs.Playing.{Setup}
+use Rattle.hex_image.specs.Laws.{IsImage}
 use Rattle.class_radio.specs.Outcome.{setups_of}
-use Rattle.sts_implements.specs.Images.{ImageImplements}
 use Rattle.sts_whole.specs.Accepting.{Accepts}
 use Rattle.sts_whole.specs.Built.{Builds}
 use Rattle.run_tool.specs.declared.fetched.Fetched.TheVariants.{Text}
 use Rattle.run_tool.specs.declared.class_boards.Boards.{Boards}
 use Rattle.run_tool.specs.Fetches.{ToldFiles, MayFetch}
 use Rattle.run_tool.specs.ClassBoards.{BoardSource}
-
--- an image and a script are those of a board: the image implements its program
-pub record IsBuiltAs (board : BoardSource) (setup : Setup) : Type 0 where
-  pub implements : ImageImplements board.program board.tables.texts setup.image
-  pub script : setup.script ≡ board.script
+use Rattle.run_tool.specs.Class.{IsBuiltAs}
 
 -- They can be run together up to this end: each image fits into flash, and each script is sound and ends then.
 pub record CanRun (until : ℕ) (boards : Boards) : Type 0 where
@@ -65,6 +60,7 @@ module _ (files : ToldFiles) (until : ℕ) where
     pub image : Vec ℕ Global
     pub is_image : IsImageOf files names.program image.items
     pub fits : vec_len image ≤ flash_end
+    pub flashed : IsImage image.items
     pub more : HasScript names.script image old new
 
   -- and all of these names are.

@@ -13,4 +13,4 @@ returns-in-Ok g c = λ P texts implements.
     let bytes : All (λ b. b < 256) c.args.image.items = search rules in
     let text = c.deref-in-Ok.result.now in
     gives-more (λ answer. answer ≡ says Done text) (WritesImage P texts) c.say.result
-    (λ answer e. (c.args.image.items, record { fits = fits; bytes = bytes }, implements, e ∙ ap (says Done) (c.deref-in-Ok.ensures.value ∙ c.in-Ok.ensures ∙ ap hextext c.deref.ensures.value))) c.say.ensures
+    (λ answer e. (c.args.image.items, record { fits = fits; bytes = bytes }, implements, e ∙ ap (says Done) (c.deref-in-Ok.ensures.value ∙ c.in-Ok.ensures ∙ ap hextext c.deref.ensures.value))) c.say.ensures.answer

@@ -16,7 +16,7 @@ returns g c =
           subst (λ o. GivesOneOf g.K.Sink.taken g.K.Sink.faults c.args.out.now o may c.match-accept.result) (sym w.out-is)
           (subst (λ r. GivesOneOf g.K.Sink.taken g.K.Sink.faults c.args.out.now w.say.new.out may r) (sym w.result-is)
           (gives-more (λ answer. answer ≡ says Done (codes "accepted\n")) may w.say.result
-          (λ answer e. inl ((w.in-Ok.field-0.1, typed_program w.in-Ok.field-0.0), w.in-Ok.ensures.accepted, e)) w.say.ensures))
+          (λ answer e. inl ((w.in-Ok.field-0.1, typed_program w.in-Ok.field-0.0), w.in-Ok.ensures.accepted, e)) w.say.ensures.answer))
       | in-Err w ↦
           subst (λ o. GivesOneOf g.K.Sink.taken g.K.Sink.faults c.args.out.now o may c.match-accept.result) (sym w.out-is)
           (subst (λ r. GivesOneOf g.K.Sink.taken g.K.Sink.faults c.args.out.now w.say_refusal.new.out may r) (sym w.result-is)

@@ -1,6 +1,6 @@
 use Rattle.class_file.specs.declared.class.ClassFile.{ClassFile}
 use Rattle.run_tool.specs.Class.{RunsClassText}
-use Rattle.run_tool.proofs.Endings.{gives-more, text-gives, no-text-gives}
+use Rattle.run_tool.proofs.Endings.{gives-more, text-gives, no-text-gives, told-on}
 use Rattle.run_tool.proofs.ClassTexts.{class-text-onwards}
 use Rattle.std.proofs.Common.{◌≡◌}
 use Rattle.run_tool.specs.declared.ending.Ending.TheVariants.{NoMemory}
@@ -64,3 +64,6 @@ returns-in-Err-clause-asked g c =
     let lacking = c.in-Err.ending ≡ NoMemory in
     asked-more asked old new (WantsFile files lacking c.args.name.now never_behind) (WantsFile files lacking c.args.name.now (Onwards classes (λ file. WantsBoards files lacking file.end file.boards wants_none)))
     (λ names h. file-missed files lacking c.args.name.now (Onwards classes (λ file. WantsBoards files lacking file.end file.boards wants_none)) names h) c.in-Err.ensures.stopped
+
+pub returns-in-Ok-clause-failure : goal.returns-in-Ok-clause-failure
+returns-in-Ok-clause-failure g c = told-on (g.F.Folder.faults c.args.folder.now) (g.F.Folder.faults c.text_of.new.folder) (g.F.Folder.faults c.run_text.new.folder) c.run_text.result c.in-Ok.ensures.unfailed c.run_text.ensures.failure

@@ -6,7 +6,7 @@ use Rattle.run_tool.specs.inner.Giving.{GivesOneOf}
 use Rattle.run_tool.specs.ClassBoards.{OverBoards}
 use Rattle.run_tool.specs.inner.Nothing.{none_to_read}
 use Rattle.run_tool.specs.inner.ClassReady.{AreReady}
-use Rattle.run_tool.specs.Class.{class_of_sources, RunsClass, RunsFile}
+use Rattle.run_tool.specs.Class.{RunsClass, RunsFile}
 use Rattle.run_tool.proofs.Endings.{gives-more, gives-after}
 use Rattle.run_tool.proofs.ClassTexts.{ready-runs, not-ready}
 use Rattle.run_tool.specs.declared.ending.Ending.TheVariants.{NoMemory}
@@ -23,7 +23,7 @@ returns-in-Ok-clause-answer g c =
     let may = RunsFile files c.args.budget c.args.class in
     let ready : AreReady files c.args.class.end c.args.class.boards c.in-Ok.boards = subst (λ (names : List Names). AreReady files c.args.class.end names c.in-Ok.boards) c.as_slice.ensures c.in-Ok.ensures.ready in
     gives-after may c.run_boards.result (subst (λ x. Took x (g.K.Sink.taken c.boards_of.new.out) []) c.in-Ok.ensures.unwritten (took-nothing (g.K.Sink.taken c.boards_of.new.out))) c.in-Ok.ensures.later
-    (gives-more (RunsClass (class_of_sources c.args.class ready.sources) c.args.budget) may c.run_boards.result (λ answer h. ready-runs files c.args.budget c.args.class c.in-Ok.boards ready answer h)
+    (gives-more (RunsClass c.args.class ready.sources c.args.budget) may c.run_boards.result (λ answer h. ready-runs files c.args.budget c.args.class c.in-Ok.boards ready answer h)
     (c.run_boards.ensures ready.sources ready.made))
 
 pub returns-in-Err-clause-answer : goal.returns-in-Err-clause-answer

@@ -7,7 +7,7 @@ use Rattle.class_file.specs.Within.{AreTexts}
 use Rattle.run_tool.specs.ClassBoards.{OverBoard, OverBoards}
 use Rattle.run_tool.specs.inner.Nothing.{none_to_read, none_to_read}
 use Rattle.run_tool.specs.inner.ClassReady.{AreReady}
-use Rattle.run_tool.proofs.Endings.{gives-more, gives-after}
+use Rattle.run_tool.proofs.Endings.{gives-more, gives-after, told-on}
 use Rattle.run_tool.proofs.ClassRuns.{none-ready, next-ready, next-answered}
 use Rattle.run_tool.specs.declared.ending.Ending.TheVariants.{NoMemory}
 use Rattle.run_tool.specs.inner.Handed.{names_of_boards}
@@ -28,6 +28,7 @@ loop-at-init g c = (
   omega arith,
   omega arith,
   no-more (g.F.Folder.asked c.args.folder.now),
+  refl,
 )
 
 pub loop-at-preserved : goal.loop-at-preserved
@@ -50,6 +51,7 @@ loop-at-preserved g c =
       omega (arith, i.4, c.add.ensures.later),
       more-behind (g.F.Folder.asked c.args.folder.now) (g.F.Folder.asked c.loop-at.folder) (g.F.Folder.asked c.add.new.folder) (names_of_boards (take c.loop-at.at c.args.names.now))
           (names_of_boards (c.index-names-at.result ∷ [])) i.5 c.in-Ok.ensures.asked ∙ ap (λ x. g.F.Folder.asked c.args.folder.now ++ x) (sym (next-names c.args.names.now c.loop-at.at c.index-names-at.result c.loop-at-test.true c.index-names-at.is)),
+      c.in-Ok.ensures.unfailed ∙ i.6,
     )
 
 pub returns-in-Err-clause-none : goal.returns-in-Err-clause-none
@@ -99,3 +101,9 @@ returns-clause-asked g c =
     let far : c.loop-at.at ≡ length c.args.names.now = omega (arith, c.loop-at-test.false, c.loop-at.auto.at-end) in
     let all : take c.loop-at.at c.args.names.now ≡ c.args.names.now = ap (λ n. take n c.args.names.now) far ∙ take-length c.args.names.now in
     subst (λ (names : List Names). asked c.loop-at.folder ≡ asked c.args.folder.now ++ names_of_boards names) all c.loop-at.invariant.5
+
+pub returns-in-Err-clause-failure : goal.returns-in-Err-clause-failure
+returns-in-Err-clause-failure g c = told-on (g.F.Folder.faults c.args.folder.now) (g.F.Folder.faults c.loop-at.folder) (g.F.Folder.faults c.add.new.folder) c.in-Err.ending c.loop-at.invariant.6 c.in-Err.ensures.failure
+
+pub returns-clause-unfailed : goal.returns-clause-unfailed
+returns-clause-unfailed g c = c.loop-at.invariant.6

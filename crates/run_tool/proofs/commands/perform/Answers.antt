@@ -21,7 +21,7 @@ returns-in-Ok-None-clause-answer g c = λ asked is.
     let none : asked ≡ None = one-asked words asked None is (subst (λ (o : Option Asked). IsAskedBy words o) (ap (option_map order_view) c.in-Ok-None.field-0-is) c.in-Ok-None.ensures.order) in
     subst (λ (o : Option Asked). Concludes (of_sink g.K.Sink.taken g.K.Sink.faults c.args.out.now c.say.new.out) (of_devices g.D.Device.account c.args.places.now.items c.args.places.now.items) (lead_of o) (MayAnswer files o) c.say.result)
     (sym none)
-    (says-concludes g.D.Device.account c.args.places.now.items c.args.places.now.items refl (MayAnswer files None) c.say.result c.say.ensures)
+    (says-concludes g.D.Device.account c.args.places.now.items c.args.places.now.items refl (MayAnswer files None) c.say.result c.say.ensures.answer)
 
 pub returns-in-Ok-Some-clause-answer : goal.returns-in-Ok-Some-clause-answer
 returns-in-Ok-Some-clause-answer g c = λ asked is.

@@ -11,6 +11,7 @@ use Rattle.run_tool.specs.Answers.{ending_number, of_sink}
 use Rattle.run_tool.specs.Wanted.{Wants}
 use Rattle.run_tool.proofs.Wanting.{asked-more, wants-more}
 use Rattle.run_tool.specs.Fetches.{told_by}
+use Rattle.run_tool.proofs.Endings.{told-number}
 use Rattle.run_tool.proofs.commands.sts_main.Goals as goal
 
 pub returns-clause-headline : goal.returns-clause-headline
@@ -68,3 +69,6 @@ pub returns-clause-sink_failed : goal.returns-clause-sink_failed
 returns-clause-sink_failed g c =
     let some = some-asked (map string_bytes c.args.words.now) in
     sink-failed (told_by g.F.Folder.holds g.F.Folder.faults c.args.folder.now c.perform.new.folder) some.0 c.perform.result c.number.result c.number.ensures (c.perform.ensures.answer some.0 some.1)
+
+pub returns-clause-failure_told : goal.returns-clause-failure_told
+returns-clause-failure_told g c = told-number (g.F.Folder.faults c.args.folder.now) (g.F.Folder.faults c.perform.new.folder) c.perform.result c.number.result c.number.ensures c.perform.ensures.failure

@@ -1,3 +1,4 @@
+use Rattle.std.proofs.Common.{refl}
 use Rattle.std.specs.Prelude.{IsErrOf}
 use Rattle.tool_folder.specs.declared.folder.FetchFault.TheVariants.{NoMemory}
 use Rattle.run_tool.proofs.Wanting.{noted-name, noted-or-none}
@@ -22,3 +23,18 @@ returns-in-Err-Failed-clause-asked g c =
 pub returns-in-Err-NoMemory-clause-lacking : goal.returns-in-Err-NoMemory-clause-lacking
 returns-in-Err-NoMemory-clause-lacking g c =
     noted-or-none (g.F.Folder.asked c.args.folder.now) (g.F.Folder.asked c.fetch.new.self) c.args.name.now (IsErrOf c.fetch.result NoMemory) c.fetch.ensures.noted
+
+pub returns-in-Ok-Whole-clause-unfailed : goal.returns-in-Ok-Whole-clause-unfailed
+returns-in-Ok-Whole-clause-unfailed g c = λ f. c.fetch.ensures.uncounted (λ l. let is = c.in-Ok-Whole.is in absurd (cc))
+
+pub returns-in-Ok-Missing-clause-unfailed : goal.returns-in-Ok-Missing-clause-unfailed
+returns-in-Ok-Missing-clause-unfailed g c = λ f. c.fetch.ensures.uncounted (λ l. let is = c.in-Ok-Missing.is in absurd (cc))
+
+pub returns-in-Ok-TooLong-clause-unfailed : goal.returns-in-Ok-TooLong-clause-unfailed
+returns-in-Ok-TooLong-clause-unfailed g c = λ f. c.fetch.ensures.uncounted (λ l. let is = c.in-Ok-TooLong.is in absurd (cc))
+
+pub returns-in-Err-NoMemory-clause-unfailed : goal.returns-in-Err-NoMemory-clause-unfailed
+returns-in-Err-NoMemory-clause-unfailed g c = λ f. c.fetch.ensures.uncounted (λ l. let is = c.in-Err-NoMemory.is in absurd (cc))
+
+pub returns-in-Err-Failed-clause-unfailed : goal.returns-in-Err-Failed-clause-unfailed
+returns-in-Err-Failed-clause-unfailed g c = λ f. absurd (f refl)

@@ -1,4 +1,4 @@
-use Rattle.std.proofs.Common.{◌≡◌, ◌∷◌, [], refl, subst}
+use Rattle.std.proofs.Common.{◌≡◌, ◌∷◌, [], refl, subst, inl}
 use Rattle.run_tool.specs.declared.fetched.Fetched.TheVariants.{Absent, Long, Failed}
 use Rattle.run_tool.specs.declared.ending.Ending.TheVariants.{NoMemory}
 use Rattle.run_tool.specs.Fetches.{MayFetch, told_by}
@@ -31,3 +31,12 @@ pub returns-in-Err-clause-stopped : goal.returns-in-Err-clause-stopped
 returns-in-Err-clause-stopped g c =
     let files = told_by g.F.Folder.holds g.F.Folder.faults c.args.folder.now c.fetch.new.folder in
     file-lacked g.F.Folder.asked c.args.folder.now c.fetch.new.folder files (NoMemory ≡ NoMemory) c.args.name.now never_behind refl c.in-Err.ensures.lacking
+
+pub returns-in-Ok-Absent-clause-failure : goal.returns-in-Ok-Absent-clause-failure
+returns-in-Ok-Absent-clause-failure g c = inl (c.in-Ok-Absent.ensures.unfailed (λ f. let is = c.in-Ok-Absent.field-0-is in absurd (cc)))
+
+pub returns-in-Ok-Long-clause-failure : goal.returns-in-Ok-Long-clause-failure
+returns-in-Ok-Long-clause-failure g c = inl (c.in-Ok-Long.ensures.unfailed (λ f. let is = c.in-Ok-Long.field-0-is in absurd (cc)))
+
+pub returns-in-Ok-Text-clause-unfailed : goal.returns-in-Ok-Text-clause-unfailed
+returns-in-Ok-Text-clause-unfailed g c = c.in-Ok-Text.ensures.unfailed (λ f. let is = c.in-Ok-Text.field-0-is in absurd (cc))

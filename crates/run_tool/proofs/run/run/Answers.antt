@@ -3,7 +3,7 @@ use Rattle.std.specs.Option.{option_map}
 use Rattle.sts_words.specs.Views.{spoken}
 use Rattle.run_tool.specs.Run.{RunsText}
 use Rattle.run_tool.specs.Files.{AnswersFile}
-use Rattle.run_tool.proofs.Endings.{no-text-gives, concludes-more, text-concludes, says-concludes}
+use Rattle.run_tool.proofs.Endings.{no-text-gives, concludes-more, text-concludes, says-concludes, told-on}
 use Rattle.run_tool.proofs.ImageRuns.{program-onwards}
 use Rattle.run_tool.specs.declared.ending.Ending.TheVariants.{NoMemory}
 use Rattle.run_tool.specs.Wanted.{Onwards, OrLacks, WantsFile, WantsScript, wants_none}
@@ -73,3 +73,6 @@ returns-in-Err-clause-asked g c =
     let next = WantsScript files lacking (option_map spoken c.args.asked.script) wants_none in
     asked-more asked old new (WantsFile files lacking c.args.name.now never_behind) (WantsFile files lacking c.args.name.now (Onwards programs (λ read. next)))
     (λ names h. file-missed files lacking c.args.name.now (Onwards programs (λ read. next)) names h) c.in-Err.ensures.stopped
+
+pub returns-in-Ok-clause-failure : goal.returns-in-Ok-clause-failure
+returns-in-Ok-clause-failure g c = told-on (g.F.Folder.faults c.args.folder.now) (g.F.Folder.faults c.text_of.new.folder) (g.F.Folder.faults c.run_text.new.folder) c.run_text.result c.in-Ok.ensures.unfailed c.run_text.ensures.failure

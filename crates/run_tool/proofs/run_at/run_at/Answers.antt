@@ -1,7 +1,7 @@
 use Rattle.std.proofs.Common.{refl, ◌≡◌}
 use Rattle.run_tool.specs.RunAt.{RunsTextAt}
 use Rattle.run_tool.specs.Files.{AnswersFile}
-use Rattle.run_tool.proofs.Endings.{no-text-gives, concludes-more, text-concludes, says-concludes}
+use Rattle.run_tool.proofs.Endings.{no-text-gives, concludes-more, text-concludes, says-concludes, told-on}
 use Rattle.run_tool.proofs.RunsAt.{text-runs-onwards}
 use Rattle.run_tool.specs.declared.ending.Ending.TheVariants.{NoMemory}
 use Rattle.run_tool.specs.Wanted.{Onwards, OrLacks, WantsFile, WantsOutside}
@@ -71,3 +71,6 @@ returns-in-Err-clause-asked g c =
     let next = WantsOutside files lacking c.args.asked.outside.script.now c.args.asked.outside.arrivals.now in
     asked-more asked old new (WantsFile files lacking c.args.name.now never_behind) (WantsFile files lacking c.args.name.now (Onwards programs (λ read. next)))
     (λ names h. file-missed files lacking c.args.name.now (Onwards programs (λ read. next)) names h) c.in-Err.ensures.stopped
+
+pub returns-in-Ok-clause-failure : goal.returns-in-Ok-clause-failure
+returns-in-Ok-clause-failure g c = told-on (g.F.Folder.faults c.args.folder.now) (g.F.Folder.faults c.text_of.new.folder) (g.F.Folder.faults c.run_text_at.new.folder) c.run_text_at.result c.in-Ok.ensures.unfailed c.run_text_at.ensures.failure

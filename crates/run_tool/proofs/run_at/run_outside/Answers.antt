@@ -4,7 +4,7 @@ use Rattle.tool_io.proofs.Laws.{took-nothing}
 use Rattle.run_tool.specs.Scripts.{OverScript}
 use Rattle.run_tool.specs.inner.Nothing.{none_to_read}
 use Rattle.run_tool.specs.RunAt.{RunsOnScript, RunsOutside}
-use Rattle.run_tool.proofs.Endings.{gives-more, concludes-more, concludes-after, says-concludes, no-script, over-script}
+use Rattle.run_tool.proofs.Endings.{gives-more, concludes-more, concludes-after, says-concludes, no-script, over-script, told-on}
 use Rattle.run_tool.proofs.RunsAt.{script-runs-onwards}
 use Rattle.run_tool.specs.declared.ending.Ending.TheVariants.{NoMemory}
 use Rattle.run_tool.specs.Wanted.{WantsFile, WantsOutside, WantsScript, none_behind}
@@ -77,3 +77,6 @@ returns-in-Err-clause-asked g c =
     let next = WantsFile files lacking c.args.asked.outside.arrivals.now none_behind in
     asked-more asked old new (WantsScript files lacking (Some script) wants_never) (WantsOutside files lacking script c.args.asked.outside.arrivals.now)
     (λ names h. script-more files files lacking lacking (λ file. refl, λ r. r) (λ l. l) (Some script) wants_never next names (λ names x. absurd x) h) c.in-Err.ensures.stopped
+
+pub returns-in-Ok-clause-failure : goal.returns-in-Ok-clause-failure
+returns-in-Ok-clause-failure g c = told-on (g.F.Folder.faults c.args.folder.now) (g.F.Folder.faults c.script_of.new.folder) (g.F.Folder.faults c.run_on_script.new.folder) c.run_on_script.result c.in-Ok.ensures.unfailed c.run_on_script.ensures.failure

@@ -1,4 +1,4 @@
-use Rattle.std.proofs.Common.{◌≡◌, ◌≤◌, ◌∙◌, refl, sym, subst, rules, arith, [], ◌++◌, ◌∷◌, List, ℕ, inr}
+use Rattle.std.proofs.Common.{◌≡◌, ◌≤◌, ◌∙◌, refl, sym, subst, rules, arith, [], ◌++◌, ◌∷◌, List, ℕ, inr, inl}
 use Rattle.std.specs.Prelude.{vec_len}
 use Rattle.thumb_code.specs.Map.{flash_end}
 use Rattle.tool_io.specs.Putting.{Took}
@@ -8,7 +8,7 @@ use Rattle.run_tool.specs.inner.Giving.{GivesOneOf}
 use Rattle.run_tool.specs.inner.Nothing.{none_to_read, none_to_boards}
 use Rattle.run_tool.specs.ClassBoards.{OverBoardProgram, OverBoardScript, OverBoard, board_scripts}
 use Rattle.run_tool.specs.inner.ClassReady.{IsImageOf, IsBoardScript}
-use Rattle.run_tool.proofs.Endings.{if-err, gives-more, gives-after}
+use Rattle.run_tool.proofs.Endings.{if-err, gives-more, gives-after, told-on}
 use Rattle.run_tool.proofs.ClassAnswers.{on-oks, image-onwards, board-refused, script-answered, script-onwards}
 use Rattle.run_tool.specs.declared.ending.Ending.TheVariants.{NoMemory}
 use Rattle.run_tool.specs.Wanted.{HasAsked, Onwards, WantsFile}
@@ -38,11 +38,12 @@ returns-in-Ok-script_of-clause-added g c =
     let script : c.name_text-script.result.now ≡ names.script = c.name_text-script.ensures ∙ c.as_slice-2.ensures in
     let image = subst (λ n. IsImageOf before n c.in-Ok.image.items) program c.in-Ok.ensures.image in
     let read = subst (λ n. IsBoardScript files_mid until n c.in-Ok-script_of.read) script c.in-Ok-script_of.ensures.script in
-    let fits : vec_len c.in-Ok.image ≤ flash_end = (let room = image.builds.room in search rules) in
+    let room : vec_len c.in-Ok.image ≤ flash_end = (let room = image.builds.room in search rules) in
     on-oks c.push.result (λ images scripts. record {
       image = c.in-Ok.image;
       is_image = image-onwards before files was names.program c.in-Ok.image.items image;
-      fits = fits;
+      fits = room;
+      flashed = record { fits = image.builds.room; bytes = c.push.ensures.bytes };
       more = record {
         script = c.in-Ok-script_of.read;
         is = script-onwards files_mid files until on names.script c.in-Ok-script_of.read read;
@@ -172,3 +173,13 @@ returns-in-Err-clause-stopped g c =
     asked-more asked old new (WantsFile files lacking names.program never) (WantsFile files lacking names.program (Onwards programs (λ read. next)))
     (λ more h. read-more files files lacking lacking (λ file. refl, λ r. r) (λ l. l) programs names.program (λ read. wants_never) (λ read. next) more (λ read names x. absurd x) h)
     (subst (λ (n : List ℕ). HasAsked asked old new (WantsFile files lacking n never)) program c.in-Err.ensures.stopped)
+
+pub returns-in-Err-script_of-clause-failure : goal.returns-in-Err-script_of-clause-failure
+returns-in-Err-script_of-clause-failure g c = told-on (g.F.Folder.faults c.args.folder.now) (g.F.Folder.faults c.image_of.new.folder) (g.F.Folder.faults c.script_of.new.folder) c.in-Err-script_of.ending c.in-Ok.ensures.unfailed c.in-Err-script_of.ensures.failure
+
+pub returns-in-Ok-script_of-clause-unfailed : goal.returns-in-Ok-script_of-clause-unfailed
+returns-in-Ok-script_of-clause-unfailed g c = on-ok-all c.push.result (c.in-Ok-script_of.ensures.unfailed ∙ c.in-Ok.ensures.unfailed)
+
+pub returns-in-Ok-script_of-clause-failure : goal.returns-in-Ok-script_of-clause-failure
+returns-in-Ok-script_of-clause-failure g c =
+    if-err c.push.result (λ ending e. inl (c.in-Ok-script_of.ensures.unfailed ∙ c.in-Ok.ensures.unfailed)) c.push.ensures.memory
