@@ -8,16 +8,16 @@ pub fn control_1() -> &'static [Row] {
     &CONTROL_1
 }
 
-static CONTROL_1: [Row; 9] = [
+static CONTROL_1: [Row; 10] = [
     Row {
-        line: &[Is("for"), Is("("), Is("let"), Name],
+        before: &[Is("for"), Is("("), Is("let"), Name],
         at: &[Is("in")],
         sentence: "`for` goes through a list by `of`, which gives its items; `in` isn't here.",
         example: "for (let x of list) { }",
         ..ANYWHERE
     },
     Row {
-        line: &[Is("for"), Is("("), Is("const"), Name],
+        before: &[Is("for"), Is("("), Is("const"), Name],
         at: &[Is("in")],
         sentence: "`for` goes through a list by `of`, which gives its items; `in` isn't here.",
         example: "for (const x of list) { }",
@@ -68,6 +68,13 @@ static CONTROL_1: [Row; 9] = [
     },
     Row {
         line: &[Is("for"), Is("(")],
+        at: &[Is(",")],
+        sentence: "The three parts of a `for` have `;` between them, not `,`.",
+        example: "for (let i = 0; i < 5; i++) { }",
+        ..ANYWHERE
+    },
+    Row {
+        before: &[Is("for"), Is("("), Name, Is("="), Any],
         at: &[Is(",")],
         sentence: "The three parts of a `for` have `;` between them, not `,`.",
         example: "for (let i = 0; i < 5; i++) { }",
@@ -287,7 +294,7 @@ pub fn control_5() -> &'static [Row] {
     &CONTROL_5
 }
 
-static CONTROL_5: [Row; 9] = [
+static CONTROL_5: [Row; 10] = [
     Row {
         at: &[Is("switch")],
         sentence: "There is no `switch`: write `if` and `else if`.",
@@ -343,6 +350,12 @@ static CONTROL_5: [Row; 9] = [
         example: "let x: number = 5",
         ..ANYWHERE
     },
+    Row {
+        at: &[Is("typeof")],
+        sentence: "There is no `typeof`: each name has one type, known before the program runs.",
+        example: "let x: number = 5",
+        ..ANYWHERE
+    },
 ];
 
 /// Code 6: tests and loops that are written otherwise, and forms that aren't here, part 6.
@@ -350,7 +363,7 @@ pub fn control_6() -> &'static [Row] {
     &CONTROL_6
 }
 
-static CONTROL_6: [Row; 9] = [
+static CONTROL_6: [Row; 10] = [
     Row {
         at: &[Is("try")],
         sentence: "There is no `try`, since nothing is thrown: test beforehand by `if`.",
@@ -406,6 +419,47 @@ static CONTROL_6: [Row; 9] = [
         before: &[Is("await")],
         sentence: "There is no `await`: a call that takes time ends when it is done.",
         example: "basic.pause(100)",
+        ..ANYWHERE
+    },
+    Row {
+        at: &[Is("delete")],
+        sentence: "There is no `delete`: `pop` takes the last item from a list.",
+        example: "a.pop()",
+        ..ANYWHERE
+    },
+];
+
+/// Code 6: tests and loops that are written otherwise, and forms that aren't here, part 7.
+pub fn control_7() -> &'static [Row] {
+    &CONTROL_7
+}
+
+static CONTROL_7: [Row; 4] = [
+    Row {
+        before: &[Is(":")],
+        at: &[Is("("), Is(")"), Is("=>")],
+        sentence: "There are no function types, since functions are no values: write the function by its name.",
+        example: "function f(): void { }",
+        ..ANYWHERE
+    },
+    Row {
+        before: &[Is(":")],
+        at: &[Is("("), Name, Is(":")],
+        sentence: "There are no function types, since functions are no values: write the function by its name.",
+        example: "function f(n: number): void { }",
+        ..ANYWHERE
+    },
+    Row {
+        before: &[Is(":"), Name],
+        at: &[Is("["), Any, Is("]")],
+        sentence: "A type has `[]` without a number: a list grows by `push`.",
+        example: "let a: number[] = [1, 2, 3]",
+        ..ANYWHERE
+    },
+    Row {
+        at: &[Is(":=")],
+        sentence: "A value is given by `=` alone, without `:`.",
+        example: "x = 5",
         ..ANYWHERE
     },
 ];

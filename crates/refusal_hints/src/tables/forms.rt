@@ -1,6 +1,6 @@
 // Rows: the first that fits is told.
 use around_place::Inside::{Bracket, Unclosed};
-use around_place::Test::{Is, Name, Number, Text};
+use around_place::Test::{Any, Is, Name, Number, Text};
 use around_place::{ANYWHERE, Row};
 
 /// Code 6: declarations, functions and calls that are written otherwise.
@@ -8,7 +8,7 @@ pub fn forms_1() -> &'static [Row] {
     &FORMS_1
 }
 
-static FORMS_1: [Row; 9] = [
+static FORMS_1: [Row; 10] = [
     Row {
         line: &[Is("class")],
         at: &[Is(",")],
@@ -73,6 +73,13 @@ static FORMS_1: [Row; 9] = [
         at: &[Name, Is("=")],
         sentence: "This word is reserved: choose another name.",
         example: "const KIND = 5",
+        ..ANYWHERE
+    },
+    Row {
+        before: &[Is("class")],
+        at: &[Any],
+        sentence: "The name is missing behind `class`; a reserved word is none.",
+        example: "class A { x = 5 }",
         ..ANYWHERE
     },
 ];
@@ -404,7 +411,7 @@ pub fn forms_6() -> &'static [Row] {
     &FORMS_6
 }
 
-static FORMS_6: [Row; 9] = [
+static FORMS_6: [Row; 10] = [
     Row {
         line: &[Is("input"), Is("."), Is("onButtonPressed")],
         before: &[Is(")")],
@@ -468,6 +475,13 @@ static FORMS_6: [Row; 9] = [
         at: &[Is("and")],
         sentence: "`and` is written `&&`.",
         example: "if (a == 1 && b == 2) { }",
+        ..ANYWHERE
+    },
+    Row {
+        before: &[Is("function"), Name],
+        at: &[Is("{")],
+        sentence: "Parentheses stand behind a function's name, also where it has no parameters.",
+        example: "function f(): void { }",
         ..ANYWHERE
     },
 ];

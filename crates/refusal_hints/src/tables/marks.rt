@@ -3,12 +3,42 @@ use around_place::Inside::{Bracket, Nothing, Unclosed};
 use around_place::Test::{Any, Is, Name, Number, Sign, Text};
 use around_place::{ANYWHERE, Row};
 
+/// Code 6: brackets that are missing around a function's body.
+pub fn bodies() -> &'static [Row] {
+    &BODIES
+}
+
+static BODIES: [Row; 3] = [
+    Row {
+        before: &[Is("function"), Name, Is("("), Is(")")],
+        at: &[Is("return")],
+        sentence: "The body of a function stands in `{ }`, also where it is one statement.",
+        example: "function f(): number { return 5 }",
+        ..ANYWHERE
+    },
+    Row {
+        line: &[Is("function")],
+        before: &[Is(")")],
+        at: &[Is("return")],
+        sentence: "The body of a function stands in `{ }`, also where it is one statement.",
+        example: "function f(): number { return 5 }",
+        ..ANYWHERE
+    },
+    Row {
+        before: &[Is(")"), Is(":"), Name],
+        at: &[Is("return")],
+        sentence: "The body of a function stands in `{ }`, also where it is one statement.",
+        example: "function f(): number { return 5 }",
+        ..ANYWHERE
+    },
+];
+
 /// Code 6: brackets and marks that are missing or too many.
 pub fn marks_1() -> &'static [Row] {
     &MARKS_1
 }
 
-static MARKS_1: [Row; 8] = [
+static MARKS_1: [Row; 10] = [
     Row {
         last: true,
         inside: Unclosed(b'{'),
@@ -63,6 +93,20 @@ static MARKS_1: [Row; 8] = [
         inside: Unclosed(b'('),
         sentence: "A `(` isn't closed: a `)` is missing before this `}`.",
         example: "if (true) { basic.pause(1) }",
+        ..ANYWHERE
+    },
+    Row {
+        before: &[Is(",")],
+        at: &[Is("]")],
+        sentence: "A comma stands between two items alone: take it out, or write what is missing behind it.",
+        example: "let a = [1, 2]",
+        ..ANYWHERE
+    },
+    Row {
+        before: &[Is("function"), Name, Is("("), Is(")")],
+        at: &[Any],
+        sentence: "The body of a function stands in `{ }`, also where it is one statement.",
+        example: "function f(): void { }",
         ..ANYWHERE
     },
 ];
@@ -138,7 +182,7 @@ pub fn marks_3() -> &'static [Row] {
     &MARKS_3
 }
 
-static MARKS_3: [Row; 8] = [
+static MARKS_3: [Row; 10] = [
     Row {
         at: &[Is("}")],
         inside: Nothing,
@@ -158,6 +202,18 @@ static MARKS_3: [Row; 8] = [
         at: &[Is("=")],
         sentence: "What is set by `=` is a name, a member or an item. Equal is written `==`.",
         example: "if (f(x) == 3) { }",
+        ..ANYWHERE
+    },
+    Row {
+        before: &[Is("++"), Name, Is("++")],
+        sentence: "`++` stands before a name or behind it, not on both sides.",
+        example: "a++",
+        ..ANYWHERE
+    },
+    Row {
+        before: &[Is("--"), Name, Is("--")],
+        sentence: "`--` stands before a name or behind it, not on both sides.",
+        example: "a--",
         ..ANYWHERE
     },
     Row {
@@ -205,7 +261,93 @@ pub fn marks_4() -> &'static [Row] {
     &MARKS_4
 }
 
-static MARKS_4: [Row; 8] = [
+static MARKS_4: [Row; 10] = [
+    Row {
+        before: &[Number],
+        at: &[Is("if")],
+        sentence: "A choice of two values is written with `?` and `:`.",
+        example: "let a = test ? 5 : 6",
+        ..ANYWHERE
+    },
+    Row {
+        before: &[Number],
+        at: &[Number],
+        inside: Bracket(b'['),
+        sentence: "A comma or a sign is missing between these two.",
+        example: "let a = [1, 2]",
+        ..ANYWHERE
+    },
+    Row {
+        before: &[Number],
+        at: &[Name],
+        inside: Bracket(b'['),
+        sentence: "A comma or a sign is missing between these two.",
+        example: "let a = [1, n]",
+        ..ANYWHERE
+    },
+    Row {
+        before: &[Name],
+        at: &[Number],
+        inside: Bracket(b'['),
+        sentence: "A comma or a sign is missing between these two.",
+        example: "let a = [n, 1]",
+        ..ANYWHERE
+    },
+    Row {
+        before: &[Name],
+        at: &[Name],
+        inside: Bracket(b'['),
+        sentence: "A comma or a sign is missing between these two.",
+        example: "let a = [n, n]",
+        ..ANYWHERE
+    },
+    Row {
+        before: &[Text],
+        at: &[Text],
+        inside: Bracket(b'['),
+        sentence: "A comma is missing between these two.",
+        example: "let a = [\"a\", \"b\"]",
+        ..ANYWHERE
+    },
+    Row {
+        before: &[Text],
+        at: &[Text],
+        inside: Bracket(b'('),
+        sentence: "Texts aren't joined: a call of the board takes one text. Between two arguments stands a comma.",
+        example: "serial.writeString(\"a\"); serial.writeString(\"b\")",
+        ..ANYWHERE
+    },
+    Row {
+        before: &[Text],
+        at: &[Number],
+        inside: Bracket(b'('),
+        sentence: "Texts aren't joined: a call of the board takes one text. Between two arguments stands a comma.",
+        example: "serial.writeString(\"x = \"); serial.writeNumber(5)",
+        ..ANYWHERE
+    },
+    Row {
+        before: &[Name],
+        at: &[Text],
+        inside: Bracket(b'('),
+        sentence: "Texts aren't joined: a call of the board takes one text. Between two arguments stands a comma.",
+        example: "serial.writeNumber(x); serial.writeString(\" points\")",
+        ..ANYWHERE
+    },
+    Row {
+        before: &[Text],
+        at: &[Text],
+        sentence: "Texts aren't joined. A statement ends where its line ends, or with `;`.",
+        example: "let s = \"a\"; let t = \"b\"",
+        ..ANYWHERE
+    },
+];
+
+/// Code 6: brackets and marks that are missing or too many, part 5.
+pub fn marks_5() -> &'static [Row] {
+    &MARKS_5
+}
+
+static MARKS_5: [Row; 7] = [
     Row {
         before: &[Text],
         at: &[Name],
@@ -220,13 +362,6 @@ static MARKS_4: [Row; 8] = [
         at: &[Number],
         sentence: "A number is whole, so there is none with a comma: count in tenths.",
         example: "let tenths = 35",
-        ..ANYWHERE
-    },
-    Row {
-        before: &[Number],
-        at: &[Is("if")],
-        sentence: "A choice of two values is written with `?` and `:`.",
-        example: "let a = test ? 5 : 6",
         ..ANYWHERE
     },
     Row {

@@ -208,7 +208,7 @@ pub fn handlers_2() -> &'static [Row] {
     &HANDLERS_2
 }
 
-static HANDLERS_2: [Row; 9] = [
+static HANDLERS_2: [Row; 10] = [
     Row {
         at: &[Is("control"), Is("."), Is("onEventFlags"), Is("(")],
         sentence: "`control.onEventFlags` takes a source, a value, a handler and flags. A handler is a function without parameters that gives no value: what came is told by `control.eventValue()`.",
@@ -225,6 +225,12 @@ static HANDLERS_2: [Row; 9] = [
         at: &[Name, Is("."), Name, Is("=")],
         sentence: "A call of the board is no variable: what it is given stands in `( )`.",
         example: "led.plot(2, 2)",
+        ..ANYWHERE
+    },
+    Row {
+        at: &[Name, Is("."), Name, Is("(")],
+        sentence: "What stands before the dot is a function of the program, which has no members. If the board is meant: the function's name hides the board's, so give it another.",
+        example: "function lights(): void { }",
         ..ANYWHERE
     },
     Row {

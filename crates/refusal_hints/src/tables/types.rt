@@ -2,12 +2,68 @@
 use around_place::Test::{Any, Is, Name, Number, Sign, Text};
 use around_place::{ANYWHERE, Row};
 
+/// Code 11: texts that are put in order.
+pub fn orders() -> &'static [Row] {
+    &ORDERS
+}
+
+static ORDERS: [Row; 8] = [
+    Row {
+        at: &[Text, Is("<")],
+        sentence: "Texts have no order: `==` and `!=` compare them. A number stands without quotes.",
+        example: "if (s == \"b\") { }",
+        ..ANYWHERE
+    },
+    Row {
+        at: &[Any, Is("<"), Text],
+        sentence: "Texts have no order: `==` and `!=` compare them. A number stands without quotes.",
+        example: "if (s == \"b\") { }",
+        ..ANYWHERE
+    },
+    Row {
+        at: &[Text, Is("<=")],
+        sentence: "Texts have no order: `==` and `!=` compare them. A number stands without quotes.",
+        example: "if (s == \"b\") { }",
+        ..ANYWHERE
+    },
+    Row {
+        at: &[Any, Is("<="), Text],
+        sentence: "Texts have no order: `==` and `!=` compare them. A number stands without quotes.",
+        example: "if (s == \"b\") { }",
+        ..ANYWHERE
+    },
+    Row {
+        at: &[Text, Is(">")],
+        sentence: "Texts have no order: `==` and `!=` compare them. A number stands without quotes.",
+        example: "if (s == \"b\") { }",
+        ..ANYWHERE
+    },
+    Row {
+        at: &[Any, Is(">"), Text],
+        sentence: "Texts have no order: `==` and `!=` compare them. A number stands without quotes.",
+        example: "if (s == \"b\") { }",
+        ..ANYWHERE
+    },
+    Row {
+        at: &[Text, Is(">=")],
+        sentence: "Texts have no order: `==` and `!=` compare them. A number stands without quotes.",
+        example: "if (s == \"b\") { }",
+        ..ANYWHERE
+    },
+    Row {
+        at: &[Any, Is(">="), Text],
+        sentence: "Texts have no order: `==` and `!=` compare them. A number stands without quotes.",
+        example: "if (s == \"b\") { }",
+        ..ANYWHERE
+    },
+];
+
 /// Code 11: types that don't fit.
 pub fn types_1() -> &'static [Row] {
     &TYPES_1
 }
 
-static TYPES_1: [Row; 9] = [
+static TYPES_1: [Row; 10] = [
     Row {
         at: &[Text, Is("+")],
         sentence: "`+` adds numbers; texts can't be joined. Write the parts by a call each.",
@@ -30,6 +86,12 @@ static TYPES_1: [Row; 9] = [
         at: &[Name, Is("+="), Text],
         sentence: "`+=` adds numbers; texts can't be joined.",
         example: "score += 1",
+        ..ANYWHERE
+    },
+    Row {
+        at: &[Any, Is("?")],
+        sentence: "What stands before `?` is true or false, and the two values behind it have one type; for a number write a comparison.",
+        example: "let a = n != 0 ? 2 : 3",
         ..ANYWHERE
     },
     Row {
@@ -139,7 +201,7 @@ pub fn types_3() -> &'static [Row] {
     &TYPES_3
 }
 
-static TYPES_3: [Row; 9] = [
+static TYPES_3: [Row; 10] = [
     Row {
         at: &[Any, Is("||")],
         sentence: "`||` takes true or false on both sides; for a number write a comparison.",
@@ -195,6 +257,12 @@ static TYPES_3: [Row; 9] = [
         at: &[Name, Is(":"), Is("boolean")],
         sentence: "The value isn't of the type that is written: it is `true` or `false`, or a comparison.",
         example: "let b: boolean = true",
+        ..ANYWHERE
+    },
+    Row {
+        at: &[Is("super"), Is("."), Name],
+        sentence: "`super.` calls a method of the base with the arguments that it takes. A field of the base is one of `this`, as `this.x`.",
+        example: "class B extends A { f(): void { this.x = 2 } }",
         ..ANYWHERE
     },
 ];
