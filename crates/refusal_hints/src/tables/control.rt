@@ -87,7 +87,7 @@ pub fn control_2() -> &'static [Row] {
     &CONTROL_2
 }
 
-static CONTROL_2: [Row; 9] = [
+static CONTROL_2: [Row; 10] = [
     Row {
         line: &[Is("for"), Is("(")],
         at: &[Is(";")],
@@ -124,6 +124,13 @@ static CONTROL_2: [Row; 9] = [
     },
     Row {
         line: &[Is("elif")],
+        sentence: "`elif` is written `else if`.",
+        example: "if (a == 1) { } else if (a == 2) { }",
+        ..ANYWHERE
+    },
+    Row {
+        before: &[Is("elif"), Is("("), Any, Any, Any, Is(")")],
+        at: &[Is("{")],
         sentence: "`elif` is written `else if`.",
         example: "if (a == 1) { } else if (a == 2) { }",
         ..ANYWHERE

@@ -347,7 +347,21 @@ pub fn marks_5() -> &'static [Row] {
     &MARKS_5
 }
 
-static MARKS_5: [Row; 7] = [
+static MARKS_5: [Row; 9] = [
+    Row {
+        before: &[Is("class"), Name],
+        at: &[Is("<")],
+        sentence: "A class takes no types: write one for each type.",
+        example: "class Numbers { items: number[] }",
+        ..ANYWHERE
+    },
+    Row {
+        before: &[Is("function"), Name],
+        at: &[Is("<")],
+        sentence: "A function takes no types: write one for each type.",
+        example: "function first(items: number[]): number { return items[0] }",
+        ..ANYWHERE
+    },
     Row {
         before: &[Text],
         at: &[Name],

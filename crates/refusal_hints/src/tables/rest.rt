@@ -57,7 +57,7 @@ pub fn untold() -> &'static [Row] {
     &UNTOLD
 }
 
-static UNTOLD: [Row; 7] = [
+static UNTOLD: [Row; 8] = [
     Row {
         before: &[Is("let")],
         at: &[Name, Is("="), Is("["), Is("]")],
@@ -85,6 +85,13 @@ static UNTOLD: [Row; 7] = [
         inside: Bracket(b'('),
         sentence: "A parameter wants its type.",
         example: "function f(n: number): void { }",
+        ..ANYWHERE
+    },
+    Row {
+        before: &[Is("."), Name, Is("(")],
+        at: &[Name],
+        sentence: "The type of this name can't be told: `for` .. `of` goes through a list alone, and a name gets its type from its value, or from what is written behind a `:`.",
+        example: "for (let x of [1, 2]) { basic.showNumber(x) }",
         ..ANYWHERE
     },
     Row {
