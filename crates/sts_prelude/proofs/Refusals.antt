@@ -16,7 +16,7 @@ use Rattle.sts_syntax.specs.declared.units.Unit as u
 use Rattle.sts_syntax.specs.Programs.{Program, program}
 use Rattle.sts_grammar.specs.Texts.{source}
 use Rattle.sts_grammar.specs.Units.{IsProgram}
-use Rattle.sts_prelude.specs.inner.Library.{library}
+use Rattle.sts_prelude.specs.Library.{library}
 use Rattle.sts_prelude.specs.Spelled.{IsLibraryTree}
 use Rattle.sts_prelude.specs.declared.text.TheConstants.{LIBRARY}
 use Rattle.sts_prelude.proofs.Tokens.{own, own_tokens, own_tokenized}

@@ -8,8 +8,9 @@ use Rattle.sts_lexer.specs.Tokens.{IsTokenization}
 use Rattle.sts_lexer.specs.declared.token.Token.{Token}
 use Rattle.sts_syntax.specs.declared.board_calls.BoardCall.TheVariants as b
 use Rattle.sts_syntax.specs.LibraryRoutines.{show_leds, show_glyphs, write_line, absolute, one_of_two, library_routines}
+use Rattle.sts_syntax.specs.Annotations as a
 use Rattle.sts_syntax.specs.Types as t
-use Rattle.sts_prelude.specs.inner.Library as l
+use Rattle.sts_prelude.specs.Library as l
 use Rattle.sts_prelude.specs.Resolved.{BecomesFunction, BecomeFunctions}
 use Rattle.sts_prelude.specs.declared.text.TheConstants.{LIBRARY}
 use Rattle.sts_prelude.proofs.Tokens.{own}
@@ -34,10 +35,10 @@ record Spelled (strings : List (List ℕ)) (names : ℕ → ℕ) : Type 0 where
   max : slice_get strings (names 27) ≡ Some (codes "$max")
 
 module _ (strings : List (List ℕ)) (names texts : ℕ → ℕ) (s : Spelled strings names) where
-  leds_become : BecomesFunction strings 0 (l.of_number (tokens_by names texts) 0 (l.show_leds (tokens_by names texts) 10)) show_leds
+  leds_become : BecomesFunction strings 0 (l.of_parameter (tokens_by names texts) 0 a.Number a.Nothing (l.show_leds (tokens_by names texts) 10)) show_leds
   leds_become = (b.ShowLeds, refl, s.show_leds, (refl, tt), refl, [], refl, (((refl, s.show), (refl, tt)), (((s.basic, s.pause), (refl, tt)), tt)))
 
-  number_becomes : BecomesFunction strings 1 (l.of_number (tokens_by names texts) 22 (l.show_glyphs (tokens_by names texts) 32)) (show_glyphs b.NumberGlyph t.Number)
+  number_becomes : BecomesFunction strings 1 (l.of_parameter (tokens_by names texts) 22 a.Number a.Nothing (l.show_glyphs (tokens_by names texts) 32)) (show_glyphs b.NumberGlyph t.Number)
   number_becomes = (
     b.ShowNumber,
     refl,
@@ -61,7 +62,7 @@ module _ (strings : List (List ℕ)) (names texts : ℕ → ℕ) (s : Spelled st
     ),
   )
 
-  string_becomes : BecomesFunction strings 2 (l.of_text (tokens_by names texts) 78 (l.show_glyphs (tokens_by names texts) 88)) (show_glyphs b.TextGlyph t.Text)
+  string_becomes : BecomesFunction strings 2 (l.of_parameter (tokens_by names texts) 78 a.Text a.Nothing (l.show_glyphs (tokens_by names texts) 88)) (show_glyphs b.TextGlyph t.Text)
   string_becomes = (
     b.ShowString,
     refl,
@@ -85,11 +86,11 @@ module _ (strings : List (List ℕ)) (names texts : ℕ → ℕ) (s : Spelled st
     ),
   )
 
-  line_becomes : BecomesFunction strings 3 (l.of_text (tokens_by names texts) 134 (l.write_line (tokens_by names texts) 144)) (write_line (texts 0))
+  line_becomes : BecomesFunction strings 3 (l.of_parameter (tokens_by names texts) 134 a.Text a.Nothing (l.write_line (tokens_by names texts) 144)) (write_line (texts 0))
   line_becomes =
       (b.WriteLine, refl, s.write_line, (refl, tt), refl, [], refl, (((s.serial, s.write_string), (refl, tt)), (((s.serial, s.write_string), (refl, tt)), tt)))
 
-  abs_becomes : BecomesFunction strings 4 (l.abs (tokens_by names texts) 158) absolute
+  abs_becomes : BecomesFunction strings 4 (l.of_parameter (tokens_by names texts) 158 a.Number a.Number (l.absolute (tokens_by names texts) 168)) absolute
   abs_becomes = (b.Abs, refl, s.abs, (refl, tt), refl, [], refl, (((refl, refl, refl), (refl, refl, refl), refl), tt))
 
   min_becomes : BecomesFunction strings 5 (l.least_or_greatest (tokens_by names texts) 179 6) (one_of_two 6)

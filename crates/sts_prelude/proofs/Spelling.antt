@@ -20,7 +20,7 @@ use Rattle.sts_grammar.specs.ReadUnits.{read_routine, read_function, read_parts,
 use Rattle.sts_grammar.specs.Texts.{source}
 use Rattle.sts_grammar.specs.Units.{IsProgram}
 use Rattle.sts_grammar.proofs.Laws.{what_is_read}
-use Rattle.sts_prelude.specs.inner.Library.{place, named_at, parameter, function, show_leds, show_glyphs, write_line, absolute, one_of_two, library}
+use Rattle.sts_prelude.specs.Library.{place, named_at, parameter, function, show_leds, show_glyphs, write_line, absolute, one_of_two, library}
 use Rattle.sts_prelude.specs.declared.text.TheConstants.{LIBRARY}
 use Rattle.sts_prelude.proofs.Tokens.{own, front, own_tokens, own_tokenized}
 use Rattle.sts_prelude.proofs.Renumbered.{renumber, moved, tokens_other, named, next_at}

@@ -1,3 +1,3 @@
-pub mod inner
+pub mod Library
 pub mod Resolved
 pub mod Spelled

@@ -9,7 +9,7 @@ use Rattle.sts_lexer.specs.declared.token.Token.{Token}
 use Rattle.sts_syntax.specs.Programs.{Program}
 use Rattle.sts_grammar.specs.Texts.{source}
 use Rattle.sts_grammar.specs.Units.{IsProgram}
-use Rattle.sts_prelude.specs.inner.Library.{named_at, library}
+use Rattle.sts_prelude.specs.Library.{named_at, library}
 use Rattle.sts_prelude.specs.Resolved.{BecomeFunctions}
 use Rattle.sts_prelude.specs.declared.text.TheConstants.{LIBRARY}
 

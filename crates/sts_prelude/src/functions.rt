@@ -1,8 +1,9 @@
 // The functions of the library, from the tokens of its text.
 ghost use Rattle.std.specs.Prelude.{◌≡◌, ◌≤◌, ◌<◌, IfOk};
-ghost use Rattle.sts_prelude.specs.inner.Library as l;
+ghost use Rattle.sts_prelude.specs.Library as l;
 ghost use Rattle.sts_syntax.specs.Annotations.{annotation};
 ghost use Rattle.sts_syntax.specs.Programs.{top_level, program};
+ghost use Rattle.sts_syntax.specs.Trees.{Return, also, done, present};
 ghost use Rattle.sts_syntax.specs.Views.{parameter, parameters, statement, statements, tree};
 
 use crate::nodes::{
@@ -60,7 +61,7 @@ fn write_line(alloc: Global, tokens: &Seq<Token>, i: usize) -> Result<Seq<Stmt>,
 
 /// A list of one statement, which returns a value.
 fn returned(alloc: Global, at: u32, value: Expr) -> Result<Seq<Stmt>, NoMemory>
-    ensures { IfOk result (λ all. statements all ≡ l.returned at (tree value)) }
+    ensures { IfOk result (λ all. statements all ≡ also (Return at (present (tree value))) done) }
 {
     one(alloc, build::returning(at, Some(value)))
 }
@@ -133,32 +134,20 @@ fn function(tokens: &Seq<Token>, i: usize, params: Seq<Param>, gives: Shape, all
     }
 }
 
-/// A function with a number as parameter and without a result.
-fn of_number(alloc: Global, tokens: &Seq<Token>, i: usize, all: Seq<Stmt>) -> Result<Item, NoMemory>
+/// A function of one parameter, whose word is a token.
+fn of_parameter(
+    alloc: Global,
+    tokens: &Seq<Token>,
+    i: usize,
+    shape: Shape,
+    gives: Shape,
+    all: Seq<Stmt>,
+) -> Result<Item, NoMemory>
     requires { i < 900 }
-    ensures { IfOk result (λ item. top_level item ≡ l.of_number tokens.now i (statements all)) }
+    ensures { IfOk result (λ item. top_level item ≡ l.of_parameter tokens.now i (annotation shape) (annotation gives) (statements all)) }
 {
-    let params = one(alloc, parameter(tokens, i + 3, Shape::Number))?;
-    Ok(function(tokens, i, params, Shape::Nothing, all))
-}
-
-/// A function with a text as parameter and without a result.
-fn of_text(alloc: Global, tokens: &Seq<Token>, i: usize, all: Seq<Stmt>) -> Result<Item, NoMemory>
-    requires { i < 900 }
-    ensures { IfOk result (λ item. top_level item ≡ l.of_text tokens.now i (statements all)) }
-{
-    let params = one(alloc, parameter(tokens, i + 3, Shape::Text))?;
-    Ok(function(tokens, i, params, Shape::Nothing, all))
-}
-
-/// `$abs`, whose word is a token.
-fn abs(alloc: Global, tokens: &Seq<Token>, i: usize) -> Result<Item, NoMemory>
-    requires { i < 800 }
-    ensures { IfOk result (λ item. top_level item ≡ l.abs tokens.now i) }
-{
-    let all = absolute(alloc, tokens, i + 10)?;
-    let params = one(alloc, parameter(tokens, i + 3, Shape::Number))?;
-    Ok(function(tokens, i, params, Shape::Number, all))
+    let params = one(alloc, parameter(tokens, i + 3, shape))?;
+    Ok(function(tokens, i, params, gives, all))
 }
 
 /// `$min` or `$max`, whose word is a token, by the number of its operator.
@@ -177,11 +166,16 @@ pub fn library_of(alloc: Global, tokens: &Seq<Token>) -> Result<Unit, NoMemory>
     ensures { IfOk result (λ unit. program unit ≡ l.library tokens.now) }
 {
     let mut items = Seq::new(alloc);
-    items.push(of_number(alloc, tokens, 0, show_leds(alloc, tokens, 10)?)?)?;
-    items.push(of_number(alloc, tokens, 22, show_glyphs(alloc, tokens, 32)?)?)?;
-    items.push(of_text(alloc, tokens, 78, show_glyphs(alloc, tokens, 88)?)?)?;
-    items.push(of_text(alloc, tokens, 134, write_line(alloc, tokens, 144)?)?)?;
-    items.push(abs(alloc, tokens, 158)?)?;
+    let leds = show_leds(alloc, tokens, 10)?;
+    items.push(of_parameter(alloc, tokens, 0, Shape::Number, Shape::Nothing, leds)?)?;
+    let number = show_glyphs(alloc, tokens, 32)?;
+    items.push(of_parameter(alloc, tokens, 22, Shape::Number, Shape::Nothing, number)?)?;
+    let string = show_glyphs(alloc, tokens, 88)?;
+    items.push(of_parameter(alloc, tokens, 78, Shape::Text, Shape::Nothing, string)?)?;
+    let line = write_line(alloc, tokens, 144)?;
+    items.push(of_parameter(alloc, tokens, 134, Shape::Text, Shape::Nothing, line)?)?;
+    let abs = absolute(alloc, tokens, 168)?;
+    items.push(of_parameter(alloc, tokens, 158, Shape::Number, Shape::Number, abs)?)?;
     items.push(least_or_greatest(alloc, tokens, 179, LESS)?)?;
     items.push(least_or_greatest(alloc, tokens, 202, GREATER)?)?;
     Ok(Unit { items })

@@ -1,6 +1,7 @@
 // The forms of expression and statement that the library's text has, from its tokens.
 ghost use Rattle.std.specs.Prelude.{◌≡◌, ◌<◌, [], ◌∷◌, IfOk};
-ghost use Rattle.sts_prelude.specs.inner.Library as l;
+ghost use Rattle.sts_prelude.specs.Library as l;
+ghost use Rattle.sts_syntax.specs.Trees.{Text};
 ghost use Rattle.sts_syntax.specs.Views.{tree, trees, statement, statements};
 
 use std::alloc::Global;
@@ -74,7 +75,7 @@ pub fn number(tokens: &Seq<Token>, i: usize, value: i32) -> Expr
 
 /// The text at a token.
 pub fn text(tokens: &Seq<Token>, i: usize) -> Expr
-    ensures { tree result ≡ l.text tokens.now i }
+    ensures { tree result ≡ Text (l.place tokens.now i) (l.named_at tokens.now i) }
 {
     Expr {
         at: place(tokens, i),

@@ -14,7 +14,7 @@ use Rattle.type_derive.specs.Accepted.{AreDerived, IsAccepted, text_failure, typ
 use Rattle.type_derive.specs.inner.FilledTexts.{filled_program}
 use Rattle.type_derive.specs.Libraries.{IsLibrary}
 use Rattle.type_derive.specs.Formed.{TextsBelow}
-use Rattle.sts_prelude.specs.inner.Library as l
+use Rattle.sts_prelude.specs.Library as l
 use Rattle.sts_prelude.specs.Spelled.{TextSpellsLibrary}
 use Rattle.sts_prelude.specs.declared.text.TheConstants.{LIBRARY}
 use Rattle.typed_laws.proofs.Laws.{program_formed, program_texts_below, typed_names}

@@ -2,7 +2,7 @@
 use Rattle.std.proofs.Common.{◌≡◌, ℕ, List, ◌++◌, Option, Some, None, refl, sym, ap, ◌∙◌, subst}
 use Rattle.sts_base.specs.declared.tables.Tables.{Tables}
 use Rattle.sts_lexer.specs.declared.token.Token.{Token}
-use Rattle.sts_prelude.specs.inner.Library as l
+use Rattle.sts_prelude.specs.Library as l
 use Rattle.sts_scope.specs.Failures.{Failure, ◌then◌}
 use Rattle.sts_syntax.specs.Programs.{Program}
 use Rattle.sts_syntax.specs.TypedTrees.{TypedProgram}

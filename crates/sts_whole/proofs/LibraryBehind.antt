@@ -10,7 +10,7 @@ use Rattle.sts_lexer.specs.Uses.{NumbersInOrder}
 use Rattle.sts_lexer.specs.declared.token.Token.{Token}
 use Rattle.sts_lexer.proofs.Laws.{slice_get_left, one_numbering, tokens_same}
 use Rattle.sts_syntax.specs.Programs.{Program}
-use Rattle.sts_prelude.specs.inner.Library as l
+use Rattle.sts_prelude.specs.Library as l
 use Rattle.sts_prelude.specs.declared.text.TheConstants.{LIBRARY}
 use Rattle.typed_laws.specs.LibraryLaws.{first, LibraryLeavesFirst}
 use Rattle.sts_whole.specs.Accepting.{ReadsText}

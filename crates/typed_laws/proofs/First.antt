@@ -17,7 +17,7 @@ use Rattle.sts_syntax.specs.Programs.{Program}
 use Rattle.sts_grammar.specs.Texts.{source, no_entries}
 use Rattle.sts_grammar.specs.Units.{AreParts}
 use Rattle.sts_grammar.specs.Laws.{OneProgram}
-use Rattle.sts_prelude.specs.inner.Library as l
+use Rattle.sts_prelude.specs.Library as l
 use Rattle.sts_prelude.specs.Spelled.{IsLibraryTree}
 use Rattle.sts_prelude.specs.declared.text.TheConstants.{LIBRARY}
 use Rattle.sts_prelude.proofs.Laws.{own, own_tokens, own_tokenized, library_spelled}

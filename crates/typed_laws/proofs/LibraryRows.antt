@@ -28,7 +28,7 @@ use Rattle.sts_scope.specs.Numbers.{Numbering, numbering}
 use Rattle.type_derive.specs.inner.FilledPrograms.{site, class_result, library_made}
 use Rattle.type_derive.specs.Accepted.{AreDerived}
 use Rattle.type_derive.specs.Libraries.{taken}
-use Rattle.sts_prelude.specs.inner.Library as l
+use Rattle.sts_prelude.specs.Library as l
 use Rattle.sts_prelude.proofs.Laws.{own_tokens}
 use Rattle.typed_laws.proofs.Prelude.{L, names, k, T, show, basic, number_glyph, text_glyph, serial, stated}
 

@@ -15,7 +15,7 @@ use Rattle.type_derive.specs.inner.FilledTexts.{filled_program}
 use Rattle.type_derive.specs.Libraries.{IsLibrary}
 use Rattle.sts_grammar.specs.Laws.{OneProgram}
 use Rattle.sts_grammar.specs.Texts.{no_entries}
-use Rattle.sts_prelude.specs.inner.Library as l
+use Rattle.sts_prelude.specs.Library as l
 use Rattle.sts_prelude.specs.Spelled as spelled
 use Rattle.sts_prelude.specs.declared.text.TheConstants.{LIBRARY}
 use Rattle.sts_prelude.proofs.Laws.{own, own_tokens, own_tokenized, moved, tokens_by, own_tokens_are}

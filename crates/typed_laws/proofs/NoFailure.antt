@@ -2,7 +2,7 @@
 use Rattle.std.proofs.Common.{◌≡◌, ℕ, true, false, List, [], ◌∷◌, ◌++◌, Option, Some, None, refl, sym, ap, ◌∙◌, subst}
 use Rattle.std.specs.Prelude.{pos}
 use Rattle.sts_base.specs.declared.tables.Tables.{Tables}
-use Rattle.sts_syntax.specs.Trees.{present, also, done}
+use Rattle.sts_syntax.specs.Trees.{Text, present, also, done}
 use Rattle.sts_scope.specs.declared.kinds.StaticType.{StaticType}
 use Rattle.sts_scope.specs.declared.known.Known.{Known}
 use Rattle.sts_scope.specs.declared.known.Found.TheVariants as found
@@ -17,7 +17,7 @@ use Rattle.type_derive.specs.Returns.{within, bound}
 use Rattle.type_derive.specs.Nodes.{statements_failure, statement_failure, failure, own_bound}
 use Rattle.type_derive.specs.Typing.{type_of, types_of, are_given, space_of, space, own_call, board_callee, ◌>>=◌}
 use Rattle.sts_scope.specs.Failures.{◌then◌}
-use Rattle.sts_prelude.specs.inner.Library.{glyph, member_call, name, text as text_at, number as number_at, first_glyph, glyph_loop, show_leds, show_glyphs, write_line, absolute, one_of_two}
+use Rattle.sts_prelude.specs.Library.{glyph, member_call, name, number as number_at, place, named_at, first_glyph, glyph_loop, show_leds, show_glyphs, write_line, absolute, one_of_two}
 use Rattle.sts_prelude.proofs.Laws.{own, own_tokens}
 
 module _ (more rest : List (List ℕ)) (names : Naming) (k : Known) where
@@ -73,13 +73,13 @@ module _ (more rest : List (List ℕ)) (names : Naming) (k : Known) where
     unfolding X.operate X1.same X.choose X.common X.goes X.assign X.joined X.prefix X.counted
     first_text = rw (serial, failure, statement_failure, statements_failure, space_of, space, own_call, board_callee, ◌>>=◌, ◌then◌, type_of, types_of, are_given, bound, own_bound) (rw (serial, failure, statement_failure, statements_failure, space_of, space, own_call, board_callee, ◌>>=◌, ◌then◌, type_of, types_of, are_given, bound, own_bound) refl)
 
-    second_text : statement_failure tables names k (within (local 16 (Some text) false ∷ []) this.Nowhere gives true) (member_call own_tokens 151 (text_at own_tokens 155)) ≡ None
+    second_text : statement_failure tables names k (within (local 16 (Some text) false ∷ []) this.Nowhere gives true) (member_call own_tokens 151 (Text (place own_tokens 155) (named_at own_tokens 155))) ≡ None
     unfolding X.operate X1.same X.choose X.common X.goes X.assign X.joined X.prefix X.counted
     second_text = rw (serial, failure, statement_failure, statements_failure, space_of, space, own_call, board_callee, ◌>>=◌, ◌then◌, type_of, types_of, are_given, bound, own_bound) (rw (serial, failure, statement_failure, statements_failure, space_of, space, own_call, board_callee, ◌>>=◌, ◌then◌, type_of, types_of, are_given, bound, own_bound) refl)
 
     pub lines : statements_failure tables names k (within (local 16 (Some text) false ∷ []) this.Nowhere gives true) (write_line own_tokens 144) ≡ None
     lines =
-        ap (λ (x : Option Failure). x then statements_failure tables names k (within (local 16 (Some text) false ∷ []) this.Nowhere gives true) (also (member_call own_tokens 151 (text_at own_tokens 155)) done)) first_text
+        ap (λ (x : Option Failure). x then statements_failure tables names k (within (local 16 (Some text) false ∷ []) this.Nowhere gives true) (also (member_call own_tokens 151 (Text (place own_tokens 155) (named_at own_tokens 155))) done)) first_text
         ∙ ap (λ (x : Option Failure). x then None) second_text
 
   pub absolutes :

@@ -23,7 +23,7 @@ use Rattle.type_derive.specs.Nodes.{statements_failure}
 use Rattle.type_derive.specs.Formed.{IsFormedProgram}
 use Rattle.type_derive.specs.Accepted.{known, AreDerived, all_sources}
 use Rattle.type_derive.specs.Libraries.{library_failure}
-use Rattle.sts_prelude.specs.inner.Library as l
+use Rattle.sts_prelude.specs.Library as l
 use Rattle.sts_prelude.proofs.Laws.{own, own_tokens}
 use Rattle.typed_laws.proofs.Typed.{some}
 use Rattle.typed_laws.proofs.NoFailure.{leds, numbers, strings, lines, absolutes, least, greatest}

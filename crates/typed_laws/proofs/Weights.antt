@@ -28,7 +28,7 @@ use Rattle.sts_scope.specs.Scopes.{all_names, library_classes}
 use Rattle.sts_scope.specs.Handlers.{all_routines}
 use Rattle.type_derive.specs.Accepted.{AreDerived, known, main_routine}
 use Rattle.type_derive.specs.inner.FilledTexts.{filled_program}
-use Rattle.sts_prelude.specs.inner.Library as l
+use Rattle.sts_prelude.specs.Library as l
 use Rattle.sts_prelude.proofs.Laws.{own_tokens}
 use Rattle.typed_laws.proofs.Prelude.{L, names, k, T, show, basic, number_glyph, text_glyph, serial}
 use Rattle.typed_laws.proofs.LibraryRows.{N, built, made_is}

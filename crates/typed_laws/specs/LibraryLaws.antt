@@ -13,7 +13,7 @@ use Rattle.type_derive.specs.Accepted.{known, AreDerived}
 use Rattle.type_derive.specs.inner.FilledTexts.{filled_program}
 use Rattle.type_derive.specs.Libraries.{IsLibrary}
 use Rattle.sts_grammar.specs.Texts.{no_entries}
-use Rattle.sts_prelude.specs.inner.Library.{library}
+use Rattle.sts_prelude.specs.Library.{library}
 use Rattle.sts_prelude.specs.Spelled as spelled
 use Rattle.sts_prelude.specs.declared.text.TheConstants.{LIBRARY}
 

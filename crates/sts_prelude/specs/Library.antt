@@ -1,4 +1,5 @@
--- The tree of the library's text, over the text's tokens, which are counted from 0.
+-- The tree of the library's text, over the text's tokens, which are counted from 0. Private functions make it, and laws
+-- name it; a text spells one tree, so no claim rests on it.
 use Rattle.std.specs.Prelude.{ℕ, ℤ, pos, ◌+◌, false, Some, None, List, [], ◌∷◌, slice_get}
 use Rattle.sts_syntax.specs.declared.operators.TheConstants.{ADD}
 use Rattle.sts_lexer.specs.declared.token.TokenKind.{TokenKind}
@@ -16,10 +17,6 @@ entry_of (k.Word word named_at) = named_at
 entry_of (k.Text named_at) = named_at
 entry_of other = 0
 
--- a return of a value, as the whole of a function
-abbrev pub returned : ℕ → Tree → Statements
-returned at value = also (Return at (present value)) done
-
 module _ (tokens : List Token) where
   -- the place of the token at i, and the named_at that it names
   abbrev pub place : ℕ → ℕ
@@ -34,9 +31,6 @@ module _ (tokens : List Token) where
 
   abbrev pub number : ℕ → ℤ → Tree
   number i value = Num (place i) value
-
-  abbrev pub text : ℕ → Tree
-  text i = Text (place i) (named_at i)
 
   -- `f(..)` from i on, and `x.f(argument)` as a statement
   abbrev pub call : ℕ → Trees → Tree
@@ -91,19 +85,19 @@ module _ (tokens : List Token) where
   show_leds i = also (show i) (also (pause (i + 5)) done)
 
   abbrev pub write_line : ℕ → Statements
-  write_line i = also (member_call i (name (i + 4))) (also (member_call (i + 7) (text (i + 11))) done)
+  write_line i = also (member_call i (name (i + 4))) (also (member_call (i + 7) (Text (place (i + 11)) (named_at (i + 11)))) done)
 
   -- `return n < 0 ? 0 - n : n` and `return a < b ? a : b`, with the number of the operator, from i on
   abbrev pub absolute : ℕ → Statements
   absolute i =
-      returned (place i)
+      also (Return (place i) (present
       (Choice (place (i + 1)) (Binary (place (i + 1)) 6 (name (i + 1)) (number (i + 3) (pos 0)))
-      (Binary (place (i + 5)) 14 (number (i + 5) (pos 0)) (name (i + 7))) (name (i + 9)))
+      (Binary (place (i + 5)) 14 (number (i + 5) (pos 0)) (name (i + 7))) (name (i + 9))))) done
 
   abbrev pub one_of_two : ℕ → (op : ℕ) → Statements
   one_of_two i op =
-      returned (place i)
-      (Choice (place (i + 1)) (Binary (place (i + 1)) op (name (i + 1)) (name (i + 3))) (name (i + 5)) (name (i + 7)))
+      also (Return (place i) (present
+      (Choice (place (i + 1)) (Binary (place (i + 1)) op (name (i + 1)) (name (i + 3))) (name (i + 5)) (name (i + 7))))) done
 
   abbrev pub parameter : ℕ → Annotation → Parameter
   parameter i type = record { at = place i; name = named_at i; shape = Some type }
@@ -112,17 +106,11 @@ module _ (tokens : List Token) where
   abbrev pub function : ℕ → List Parameter → Annotation → Statements → TopLevel
   function i params gives all = Function (named_at (i + 1)) (Does (place (i + 1)) params (Some gives) all false)
 
-  -- a function of a number or of a text that gives nothing
-  abbrev pub of_number : ℕ → Statements → TopLevel
-  of_number i all = function i (parameter (i + 3) a.Number ∷ []) a.Nothing all
+  -- a function of one parameter
+  abbrev pub of_parameter : ℕ → Annotation → (gives : Annotation) → Statements → TopLevel
+  of_parameter i type gives all = function i (parameter (i + 3) type ∷ []) gives all
 
-  abbrev pub of_text : ℕ → Statements → TopLevel
-  of_text i all = function i (parameter (i + 3) a.Text ∷ []) a.Nothing all
-
-  -- `$abs`, and `$min` and `$max` by the number of the operator
-  abbrev pub abs : ℕ → TopLevel
-  abs i = function i (parameter (i + 3) a.Number ∷ []) a.Number (absolute (i + 10))
-
+  -- `$min` and `$max`, by the number of the operator
   abbrev pub least_or_greatest : ℕ → (op : ℕ) → TopLevel
   least_or_greatest i op =
       function i (parameter (i + 3) a.Number ∷ parameter (i + 7) a.Number ∷ []) a.Number (one_of_two (i + 14) op)
@@ -130,6 +118,6 @@ module _ (tokens : List Token) where
   -- the library
   abbrev pub library : Program
   library =
-      of_number 0 (show_leds 10) ∷ of_number 22 (show_glyphs 32) ∷ of_text 78 (show_glyphs 88)
-      ∷ of_text 134 (write_line 144)
-      ∷ abs 158 ∷ least_or_greatest 179 6 ∷ least_or_greatest 202 7 ∷ []
+      of_parameter 0 a.Number a.Nothing (show_leds 10) ∷ of_parameter 22 a.Number a.Nothing (show_glyphs 32)
+      ∷ of_parameter 78 a.Text a.Nothing (show_glyphs 88) ∷ of_parameter 134 a.Text a.Nothing (write_line 144)
+      ∷ of_parameter 158 a.Number a.Number (absolute 168) ∷ least_or_greatest 179 6 ∷ least_or_greatest 202 7 ∷ []
