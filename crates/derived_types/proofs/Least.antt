@@ -5,7 +5,11 @@ use Rattle.std.proofs.Math.Dec.{eqb}
 use Rattle.std.proofs.Math.Facts.{eqb_yes, yes_eqb}
 use Rattle.sts_scope.specs.declared.kinds.StaticType.{StaticType}
 use Rattle.type_derive.specs.Derived.{Less, Within, IsLeast, at}
-use Rattle.derived_types.specs.Underway.{IsMonotone, IsUnderway, IsStill, Moves, holes}
+use Rattle.derived_types.specs.Underway.{IsUnderway, IsStill, Moves, holes}
+
+-- a rule gives no less where more is known
+abbrev pub IsMonotone : (List (Option StaticType) → ℕ → Option StaticType) → Type 0
+IsMonotone rule = (xs ys : List (Option StaticType)) → Within xs ys → (d : ℕ) → Less (rule xs d) (rule ys d)
 
 less_none : (x y : Option StaticType) → x ≡ None → Less x y
 less_none None y h = tt

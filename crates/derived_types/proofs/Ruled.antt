@@ -8,11 +8,11 @@ use Rattle.sts_scope.specs.Entries.{Naming}
 use Rattle.sts_scope.specs.Rules.{kind_at}
 use Rattle.sts_syntax.specs.Programs.{Program}
 use Rattle.sts_scope.specs.Scopes.{all_entries, all_classes, library_entries}
-use Rattle.type_derive.specs.Accepted.{known}
+use Rattle.type_derive.specs.Derived.{known, Source, follows, rule, at}
 use Rattle.derived_types.specs.declared.origins.Origin.{Origin}
-use Rattle.type_derive.specs.Derived.{Source, follows, rule, at}
 use Rattle.derived_types.specs.Origins.{source, sources}
-use Rattle.derived_types.specs.Underway.{IsMonotone, Keeps}
+use Rattle.derived_types.specs.Underway.{Keeps}
+use Rattle.derived_types.proofs.Least.{IsMonotone}
 use Rattle.derived_types.proofs.Gathered.{source_none, source_at}
 use Rattle.type_derive.proofs.Laws.{rule_grows}
 

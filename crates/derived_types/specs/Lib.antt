@@ -2,3 +2,4 @@ pub mod Origins
 pub mod Underway
 pub mod Work
 pub mod Rules
+pub mod Solved

@@ -4,10 +4,6 @@ use Rattle.sts_scope.specs.declared.kinds.StaticType.{StaticType}
 use Rattle.sts_scope.specs.declared.known.Known.{Known}
 use Rattle.type_derive.specs.Derived.{Less, Within, Solves, at}
 
--- a rule gives no less where more is known
-abbrev pub IsMonotone : (List (Option StaticType) → ℕ → Option StaticType) → Type 0
-IsMonotone rule = (xs ys : List (Option StaticType)) → Within xs ys → (d : ℕ) → Less (rule xs d) (rule ys d)
-
 pub record IsUnderway (rule : List (Option StaticType) → ℕ → Option StaticType)
     (kinds : List (Option StaticType)) : Type 0 where
   pub below : (others : List (Option StaticType)) → length others ≡ length kinds → Solves rule others

@@ -10,10 +10,11 @@ use Rattle.sts_syntax.specs.Programs.{Program}
 use Rattle.sts_syntax.specs.TypedTrees.{TypedProgram}
 use Rattle.sts_syntax.specs.Weights.{routines_weight}
 use Rattle.sts_scope.specs.declared.kinds.StaticType.{StaticType}
-use Rattle.type_derive.specs.Accepted.{AreDerived, IsAccepted, text_failure, typed}
-use Rattle.type_derive.specs.inner.FilledTexts.{filled_program}
-use Rattle.type_derive.specs.Libraries.{IsLibrary}
-use Rattle.type_derive.specs.Formed.{TextsBelow}
+use Rattle.type_derive.specs.Derived.{AreDerived}
+use Rattle.typed_laws.specs.Accepted.{IsAccepted, text_failure, typed, limits_failure}
+use Rattle.typed_laws.specs.inner.FilledTexts.{filled_program}
+use Rattle.typed_laws.specs.Libraries.{IsLibrary}
+use Rattle.typed_laws.specs.Formed.{TextsBelow}
 use Rattle.sts_prelude.specs.Library as l
 use Rattle.sts_prelude.specs.Spelled.{TextSpellsLibrary}
 use Rattle.sts_prelude.specs.declared.text.TheConstants.{LIBRARY}
@@ -22,7 +23,6 @@ use Rattle.typed_laws.specs.LibraryLaws.{first, PreludeIsLibrary, LibraryLeavesF
 use Rattle.typed_laws.specs.Laws.{AcceptedIsWellTyped}
 use Rattle.typed_laws.specs.BuiltTexts.{TextsAreBuilt}
 use Rattle.sts_scope.specs.Failures.{Failure}
-use Rattle.type_derive.specs.Limits.{limits_failure}
 use Rattle.type_derive.specs.Typing.{◌>>=◌}
 use Rattle.sts_whole.proofs.FilledTexts.{first_none}
 use Rattle.sts_whole.specs.Accepting.{Accepts}

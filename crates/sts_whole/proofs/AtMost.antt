@@ -32,9 +32,9 @@ use Rattle.type_derive.specs.Returns.{bound, looped, items_of}
 use Rattle.type_derive.specs.Making.{Made}
 use Rattle.type_derive.specs.inner.Filling.{Making, pure, ◌>=>◌, a_local}
 use Rattle.type_derive.specs.Built.{Site, in_block, board_target}
-use Rattle.type_derive.specs.inner.Filled.{amiss, made_tree, made_given, made_items, made_asked, made_call, made_body, made_first, made_optional, made_value, made_locals, made_local, made_statement, made_opening, made_statements, noted, type_in, part_in, class_in, member_read, part_target, routine_of, class_found, call_takes, asked_given, argument_made, next_given, later_given, behind_statement, first_site, in_handler_site, kind_or_nothing}
-use Rattle.type_derive.specs.Programs.{◌before◌}
-use Rattle.type_derive.specs.inner.FilledPrograms.{site, function_made, method_made, initial_made, initials, super_called, made_statements_of, constructor_made, unwritten_made, members_made, class_made, global_made, globals_made, main_made, items_made, library_made}
+use Rattle.type_derive.specs.inner.Filled.{amiss, made_tree, made_given, made_items, made_asked, made_call, made_body, made_first, made_optional, made_value, made_locals, made_local, made_statement, made_opening, made_statements, noted, type_in, part_in, class_in, member_read, part_target, routine_of, class_found, call_takes, asked_given, argument_made, next_given, later_given, behind_statement, first_site, in_handler_site, kind_or_nothing, site, function_made, method_made}
+use Rattle.typed_laws.specs.Programs.{◌before◌, super_called, unwritten_made}
+use Rattle.typed_laws.specs.inner.FilledPrograms.{initial_made, initials, made_statements_of, constructor_made, members_made, class_made, global_made, globals_made, main_made, items_made, library_made}
 
 -- the locals of what is made, and what the functions in it take
 abbrev pub AtMost : {A : Type 0} → ℕ → Making A → Type 0
@@ -93,7 +93,7 @@ module _ (tables : Tables) (names : Naming) (k : Known) (numbers : Numbering) wh
   mk s g a = made_tree tables names k numbers s g a
 
   abbrev u_of : Site → Tree → ValueType
-  u_of s list = value_type (kind_or_nothing tables names k numbers (items_of tables names k (type_of tables k s.place Free list)))
+  u_of s list = value_type (kind_or_nothing tables names k numbers (items_of (type_of tables k s.place Free list)))
 
   -- a member that is read is a number, or made of its object
   member_at_most : (s : Site) (a : Tree) (m : ℕ) (n : ValueType) (z : Option ℤ) → AtMost (tree_numbered a) (mk s None a)
@@ -177,7 +177,7 @@ module _ (tables : Tables) (names : Naming) (k : Known) (numbers : Numbering) wh
         board_at_most s f args (noted tables names k numbers s g (Call i f args)) (board_callee tables k s.place f) (λ ps. asked_at_most s ps args)
         (call_at_most s f args (noted tables names k numbers s g (Call i f args)) (made_given tables names k numbers s (call_takes tables names k numbers s f) args) (given_at_most s (call_takes tables names k numbers s f) args))
     tree_at_most s g (SuperCall i None args) = λ m n. least (trees_numbered args)
-    tree_at_most s g (SuperCall i (Some m) args) = super_at_most s args (noted tables names k numbers s g (SuperCall i (Some m) args)) (super_method tables k s.place.this m) (λ takes. given_at_most s takes args)
+    tree_at_most s g (SuperCall i (Some m) args) = super_at_most s args (noted tables names k numbers s g (SuperCall i (Some m) args)) (super_method k s.place.this m) (λ takes. given_at_most s takes args)
     tree_at_most s g (Make i x args) =
         let class = class_found tables names k numbers (finds tables k s.place x) in
         at_one (trees_numbered args) (made_given tables names k numbers s (maker_takes_of k.classes class) args) (λ xs. e.Make (t.Object class) class xs) (given_at_most s (maker_takes_of k.classes class) args)
@@ -280,7 +280,7 @@ module _ (tables : Tables) (names : Naming) (k : Known) (numbers : Numbering) wh
         (λ q. at_two U0 J (made_optional tables names k numbers s1 step) (made_statement tables names k numbers (in_block s1) a) (λ y x. e.For l q y x) (optional_at_most s1 step) (statement_at_most (in_block s1) a)))) (omega arith) m n
     statement_at_most s (ForOf i fixed x list a) = λ m n.
         let u : ValueType = u_of s list in
-        let s1 : Site = record { place = inner (looped tables names k s.place fixed x list); spots = s.spots ++ Local m ∷ [] } in
+        let s1 : Site = record { place = inner (looped tables k s.place fixed x list); spots = s.spots ++ Local m ∷ [] } in
         let J : ℕ = statement_numbered a in
         let body : Making TypedStatement = made_statement tables names k numbers s1 a in
         at_as (tree_numbered list + (1 + (1 + (1 + J)))) (3 + (tree_numbered list + J)) (mk s None list >=> λ l. a_local u (λ i. i) >=> λ i. a_local (t.ListOf u) (λ j. j) >=> λ j. a_local t.Number (λ j. j) >=> λ j. body >=> λ y. pure (e.ForOf fixed (Local i) l y))
@@ -331,7 +331,7 @@ module _ (tables : Tables) (names : Naming) (k : Known) (numbers : Numbering) wh
   maker_at_most s None inits all = plain_at_most s inits all
   maker_at_most s (Some b) inits (also (Plain j (SuperCall i None args)) rest) =
       at_two (trees_numbered args) (statements_numbered rest) (made_given tables names k numbers s (maker_takes_of k.classes b) args) (made_statements tables names k numbers s rest)
-      (λ ys xs. e.also (super_called tables names k numbers b ys) (inits before xs)) (given_at_most s (maker_takes_of k.classes b) args) (statements_at_most s rest)
+      (λ ys xs. e.also (super_called numbers b ys) (inits before xs)) (given_at_most s (maker_takes_of k.classes b) args) (statements_at_most s rest)
   maker_at_most s (Some b) inits done = plain_at_most s inits done
   maker_at_most s (Some b) inits (also (Block j all) rest) = plain_at_most s inits (also (Block j all) rest)
   maker_at_most s (Some b) inits (also (Let j fixed each) rest) = plain_at_most s inits (also (Let j fixed each) rest)
@@ -387,11 +387,11 @@ module _ (tables : Tables) (names : Naming) (k : Known) (numbers : Numbering) wh
       (constructor_at_most c n inits r) (members_at_most c (suc n + routine_handlers r) d inits rest)
 
   -- a constructor that isn't written has no locals, and what it takes stands at its base
-  pub unwritten_at_most : (c : ℕ) (inits : List TypedStatement) (count : ℕ) → numbers_taken (unwritten_made tables names k numbers count c inits) ≤ length (maker_takes_of k.classes c) + (count + count)
+  pub unwritten_at_most : (c : ℕ) (inits : List TypedStatement) (count : ℕ) → numbers_taken (unwritten_made k numbers count c inits) ≤ length (maker_takes_of k.classes c) + (count + count)
   unwritten_at_most c inits zero = omega arith
   unwritten_at_most c inits (suc count) = (let a = types_long (maker_takes_of k.classes c) in omega (arith, a))
 
-  pub unwritten_long : (c : ℕ) (inits : List TypedStatement) (count : ℕ) → length (unwritten_made tables names k numbers count c inits) ≤ count
+  pub unwritten_long : (c : ℕ) (inits : List TypedStatement) (count : ℕ) → length (unwritten_made k numbers count c inits) ≤ count
   unwritten_long c inits zero = omega arith
   unwritten_long c inits (suc count) = omega arith
 
@@ -400,7 +400,7 @@ module _ (tables : Tables) (names : Naming) (k : Known) (numbers : Numbering) wh
   class_at_most c n d members =
       let first = n + unwritten members in
       let inits = initials tables names k numbers c first d members in
-      let makers = unwritten_made tables names k numbers (unwritten members) c inits in
+      let makers = unwritten_made k numbers (unwritten members) c inits in
       let others = members_made tables names k numbers c inits first d members in
       let a = unwritten_at_most c inits (unwritten members) in
       let b = members_at_most c first d inits members in
@@ -411,7 +411,7 @@ module _ (tables : Tables) (names : Naming) (k : Known) (numbers : Numbering) wh
   class_long c n d members =
       let first = n + unwritten members in
       let inits = initials tables names k numbers c first d members in
-      let makers = unwritten_made tables names k numbers (unwritten members) c inits in
+      let makers = unwritten_made k numbers (unwritten members) c inits in
       let others = members_made tables names k numbers c inits first d members in
       let a = unwritten_long c inits (unwritten members) in
       let b = members_at_most c first d inits members in

@@ -17,10 +17,10 @@ use Rattle.typed_numbers.specs.Counts.{counts_fit}
 use Rattle.sts_whole.proofs.Counted.{over_limit}
 use Rattle.sts_scope.specs.Scopes.{all_names, library_classes, heading_refusal}
 use Rattle.type_derive.specs.Passes.{all_overrides, nodes_failure}
-use Rattle.type_derive.specs.Limits.{limits_failure}
-use Rattle.type_derive.specs.Accepted.{known}
-use Rattle.type_derive.specs.inner.FilledTexts.{filled_program, filled_refusal, IsFilled}
-use Rattle.type_derive.specs.Solved.{IsSolved}
+use Rattle.typed_laws.specs.Accepted.{limits_failure}
+use Rattle.type_derive.specs.Derived.{known}
+use Rattle.typed_laws.specs.inner.FilledTexts.{filled_program, filled_refusal, IsFilled}
+use Rattle.derived_types.specs.Solved.{IsSolved}
 use Rattle.type_derive.proofs.Laws.{types_exist}
 use Rattle.text_headings.specs.Standing.{IsTextDeclared}
 use Rattle.text_headings.proofs.Laws.{text_declared}

@@ -22,7 +22,7 @@ use Rattle.sts_scope.specs.Kinds as kind
 use Rattle.sts_scope.specs.Lookup.{base_of}
 use Rattle.sts_scope.specs.Rules.{maker_takes_of}
 use Rattle.type_derive.specs.inner.Filled as b
-use Rattle.type_derive.specs.Programs.{◌before◌}
+use Rattle.typed_laws.specs.Programs.{◌before◌}
 use Rattle.type_derive.specs.Heads.{SuperHead, head_of}
 use Rattle.typed_trees.specs.declared.build_places.Builder.{Builder}
 use Rattle.typed_trees.specs.declared.build_places.Plan.{Plan}
@@ -34,6 +34,7 @@ use Rattle.typed_numbers.specs.Building.{numbering_of}
 use Rattle.typed_trees.specs.Fits.{numbers_taken}
 use Rattle.typed_trees.specs.Sites.{naming}
 use Rattle.sts_whole.specs.Wholes as w
+use Rattle.sts_whole.proofs.Before.{headed_made}
 use Rattle.sts_whole.proofs.AtMost.{constructor_at_most}
 use Rattle.typed_trees.proofs.Laws.{drop_next, next_value, then, last, onto, StatementsGo}
 
@@ -84,7 +85,7 @@ without_head l st base inits (t.Plain j (t.SuperCall at (Some m) args)) rest h =
 without_head l st base inits (t.Plain j (t.SuperCall at None args)) rest h = absurd cc
 
 pub with_head : (l : Plan) (st : b.Site) (base : ℕ) (inits : List TypedStatement) (a : Statement) (rest : Statements) (h : SuperHead) → head_of a ≡ Some h
-    → w.maker_statements l st (Some base) inits (also a rest) ≡ w.headed_made l st base inits h.args rest
+    → w.maker_statements l st (Some base) inits (also a rest) ≡ headed_made l st base inits h.args rest
 unfolding w.maker_statements s.statements_made s.given_made
 with_head l st base inits (t.Block j all) rest h is = absurd cc
 with_head l st base inits (t.Let j fixed each) rest h is = absurd cc
@@ -120,7 +121,7 @@ with_head l st base inits (t.Plain j (t.Handler at r)) rest h is = absurd cc
 with_head l st base inits (t.Plain j (t.SuperCall at (Some m) args)) rest h is = absurd cc
 with_head l st base inits (t.Plain j (t.SuperCall at None args)) rest h is =
     let same : record { at = at; args = args } ≡ h = cc in
-    ap (λ (y : SuperHead). w.headed_made l st base inits y.args rest) same
+    ap (λ (y : SuperHead). headed_made l st base inits y.args rest) same
 
 -- the first of some statements
 pub statements_first : (xs : List Stmt) (x : Stmt) → 1 ≤ length xs → x ≡ get_or xs 0 x → statements xs ≡ also (statement x) (statements (drop 1 xs))
@@ -153,7 +154,7 @@ behind_begins l st c made xs d ys given =
 -- the call of the base's constructor comes before
 pub headed_is : (l : Plan) (st : b.Site) (base : ℕ) (inits : List TypedStatement) (args : Trees) (rest : Statements) (b0 c d : Builder) (ys : TypedTrees) (first : List TypedStatement) (all : TypedStatements)
     → first ≡ w.super_called l base ys ∷ inits → IsBuilt b0 c (s.given_made l st (maker_takes_of l.known.now.classes base) args) ys
-    → IsBuilt c d (w.behind_made l st first rest) all → IsBuilt b0 d (w.headed_made l st base inits args rest) all
+    → IsBuilt c d (w.behind_made l st first rest) all → IsBuilt b0 d (headed_made l st base inits args rest) all
 headed_is l st base inits args rest b0 c d ys first all is given built =
     then b0 c d (s.given_made l st (maker_takes_of l.known.now.classes base) args) (λ zs. w.behind_made l st (w.super_called l base zs ∷ inits) rest) ys all given
     (subst (λ (q : List TypedStatement). IsBuilt c d (w.behind_made l st q rest) all) is built)

@@ -21,8 +21,9 @@ use Rattle.typed_limits.specs.Limits.{class_fits, routine_fits, program_fits}
 use Rattle.sts_syntax.specs.Nodes.{text_bytes, text_weight}
 use Rattle.typed_numbers.specs.Building.{names_upto}
 use Rattle.typed_numbers.specs.Counts.{is_short, counts_fit}
-use Rattle.type_derive.specs.Limits.{limits_failure}
-use Rattle.type_derive.specs.inner.FilledPrograms as p
+use Rattle.typed_laws.specs.Accepted.{limits_failure}
+use Rattle.type_derive.specs.inner.Filled as b
+use Rattle.typed_laws.specs.inner.FilledPrograms as p
 
 both : (x y : Bool) → (x && y) ≡ true → (x ≡ true) × (y ≡ true)
 both true y h = (refl, h)
@@ -52,7 +53,7 @@ module _ (tables : Tables) (names : Naming) (k : Known) (numbers : Numbering) wh
   globals_long : (d : ℕ) (es : List Entry) → length (p.global_types tables names k numbers d es) ≡ length (names_of is_global es)
   globals_long d [] = refl
   globals_long d (a ∷ rest) =
-      longer (is_global a.sort) (p.class_result tables names k numbers (kind_at k d)) a.name (p.global_types tables names k numbers (suc d) rest) (names_of is_global rest) (globals_long (suc d) rest)
+      longer (is_global a.sort) (b.class_result tables names k numbers (kind_at k d)) a.name (p.global_types tables names k numbers (suc d) rest) (names_of is_global rest) (globals_long (suc d) rest)
 
   each : (c : ℕ) (xs : List ClassHead) → list_all class_fits (p.class_entries tables names k numbers c xs) ≡ true → (i : ℕ) → i < length xs → class_fits (p.class_entry tables names k numbers (c + i)) ≡ true
   each c [] h i l = absurd (omega arith)

@@ -82,7 +82,7 @@ module _ (P : ℕ → Type 0) (tables : Tables) (names : Naming) (k : Known) whe
   unsuited_in : (p : NameScope) (r : Role) (e : Tree) (at : ℕ) → P at → In (unsuited tables names k p r e at)
   unsuited_in p r e at h = if_in (suits tables names k p r e) None (own (ty p r e) (cause_of tables k p r e) at) none_in (own_in (ty p r e) (cause_of tables k p r e) at h)
 
-  local_in : (p : NameScope) (x at : ℕ) → P at → In (own_local tables names k p x at)
+  local_in : (p : NameScope) (x at : ℕ) → P at → In (own_local tables p x at)
   local_in p x at h =
       then_in (unless (not (is_dollar tables.names x)) UnknownName at) (unless (not (is_twice p x)) TwiceNamed at)
       (unless_in (not (is_dollar tables.names x)) UnknownName at h) (unless_in (not (is_twice p x)) TwiceNamed at h)
@@ -92,7 +92,7 @@ module _ (P : ℕ → Type 0) (tables : Tables) (names : Naming) (k : Known) whe
   bound_in p (Some a) absent at h = none_in
   bound_in p (Some a) (present e) at h = unless_in (fits k (ty p Given e) (kind_of names a)) Mismatch at h
 
-  test_in : (p : NameScope) (test : OptionalTree) (at : ℕ) → P at → In (test_failure tables names k p test at)
+  test_in : (p : NameScope) (test : OptionalTree) (at : ℕ) → P at → In (test_failure tables k p test at)
   test_in p absent at h = none_in
   test_in p (present e) at h = unless_in (is_boolean (ty p Free e)) Mismatch at h
 
@@ -173,9 +173,9 @@ module _ (P : ℕ → Type 0) (tables : Tables) (names : Naming) (k : Known) whe
 
     declaration_in : (p : NameScope) (a : Declaration) → DeclarationAt P a → In (declaration_failure tables names k p a)
     declaration_in p (Declare at x shape first) h =
-        then_in (written_failure names at shape) (initial_failure tables names k p shape first then own_local tables names k p x at then own_bound tables names k p shape first at) (written_in names at shape h.0 h.1)
-        (then_in (initial_failure tables names k p shape first) (own_local tables names k p x at then own_bound tables names k p shape first at) (initial_in p shape first h.2)
-        (then_in (own_local tables names k p x at) (own_bound tables names k p shape first at) (local_in p x at h.0) (bound_in p shape first at h.0)))
+        then_in (written_failure names at shape) (initial_failure tables names k p shape first then own_local tables p x at then own_bound tables names k p shape first at) (written_in names at shape h.0 h.1)
+        (then_in (initial_failure tables names k p shape first) (own_local tables p x at then own_bound tables names k p shape first at) (initial_in p shape first h.2)
+        (then_in (own_local tables p x at) (own_bound tables names k p shape first at) (local_in p x at h.0) (bound_in p shape first at h.0)))
 
     declarations_in : (p : NameScope) (fixed : Bool) (each : Declarations) → DeclarationsAt P each → In (declarations_failure tables names k p fixed each)
     declarations_in p fixed ended h = none_in
@@ -202,13 +202,13 @@ module _ (P : ℕ → Type 0) (tables : Tables) (names : Naming) (k : Known) whe
     statement_in p (For at first test step a) h =
         let q = after_first tables names k (inner p) first in
         then_in (first_failure tables names k (inner p) first)
-        (optional_failure tables names k q test then optional_failure tables names k q step then statement_failure tables names k (inner q) a then test_failure tables names k q test at)
+        (optional_failure tables names k q test then optional_failure tables names k q step then statement_failure tables names k (inner q) a then test_failure tables k q test at)
         (first_in (inner p) first h.1)
-        (then_in (optional_failure tables names k q test) (optional_failure tables names k q step then statement_failure tables names k (inner q) a then test_failure tables names k q test at) (optional_in q test h.2)
-        (then_in (optional_failure tables names k q step) (statement_failure tables names k (inner q) a then test_failure tables names k q test at) (optional_in q step h.3)
-        (then_in (statement_failure tables names k (inner q) a) (test_failure tables names k q test at) (statement_in (inner q) a h.4) (test_in q test at h.0))))
+        (then_in (optional_failure tables names k q test) (optional_failure tables names k q step then statement_failure tables names k (inner q) a then test_failure tables k q test at) (optional_in q test h.2)
+        (then_in (optional_failure tables names k q step) (statement_failure tables names k (inner q) a then test_failure tables k q test at) (optional_in q step h.3)
+        (then_in (statement_failure tables names k (inner q) a) (test_failure tables k q test at) (statement_in (inner q) a h.4) (test_in q test at h.0))))
     statement_in p (ForOf at fixed x list a) h =
-        let q = inner (looped tables names k p fixed x list) in
+        let q = inner (looped tables k p fixed x list) in
         then_in (bad p Free list) (statement_failure tables names k q a then unless (not (is_dollar tables.names x)) UnknownName at then unless (is_list (ty p Free list)) Mismatch at) (failure_in p Free list h.1)
         (then_in (statement_failure tables names k q a) (unless (not (is_dollar tables.names x)) UnknownName at then unless (is_list (ty p Free list)) Mismatch at) (statement_in q a h.2)
         (then_in (unless (not (is_dollar tables.names x)) UnknownName at) (unless (is_list (ty p Free list)) Mismatch at) (unless_in (not (is_dollar tables.names x)) UnknownName at h.0)

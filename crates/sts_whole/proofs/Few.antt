@@ -12,7 +12,7 @@ use Rattle.sts_scope.specs.declared.known.Known.{Known}
 use Rattle.sts_scope.specs.Entries.{Naming, classes_in, item_class, class_names, item_entries, entries_from}
 use Rattle.sts_scope.specs.Scopes.{all_names}
 use Rattle.text_sizes.proofs.Laws.{most_tokens, few_numbered, few_declarations}
-use Rattle.type_derive.specs.Solved.{IsSolved}
+use Rattle.derived_types.specs.Solved.{IsSolved}
 use Rattle.sts_whole.specs.Few.{HasFewParts, AreFew}
 use Rattle.sts_whole.proofs.Numbered.{entries_long}
 

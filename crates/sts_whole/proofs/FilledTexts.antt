@@ -6,11 +6,10 @@ use Rattle.sts_prelude.specs.Library as l
 use Rattle.sts_scope.specs.Failures.{Failure, ◌then◌}
 use Rattle.sts_syntax.specs.Programs.{Program}
 use Rattle.sts_syntax.specs.TypedTrees.{TypedProgram}
-use Rattle.type_derive.specs.Accepted.{AreDerived, IsAccepted, IsRefused, text_failure}
-use Rattle.type_derive.specs.Derived.{TypeTable}
-use Rattle.type_derive.specs.Libraries.{IsLibrary}
-use Rattle.type_derive.specs.Limits.{limits_failure}
-use Rattle.type_derive.specs.inner.FilledTexts.{filled_program, filled_refusal, IsFilled, IsUnfilled}
+use Rattle.type_derive.specs.Derived.{AreDerived, TypeTable}
+use Rattle.typed_laws.specs.Accepted.{IsAccepted, IsRefused, text_failure, limits_failure}
+use Rattle.typed_laws.specs.Libraries.{IsLibrary}
+use Rattle.typed_laws.specs.inner.FilledTexts.{filled_program, filled_refusal, IsFilled, IsUnfilled}
 use Rattle.typed_laws.specs.BuiltTexts.{TextsAreBuilt, RefusalsAreFound}
 use Rattle.typed_laws.specs.LibraryLaws.{first, PreludeIsLibrary, LibraryLeavesFirst}
 use Rattle.sts_whole.specs.Accepting.{ReadsText}

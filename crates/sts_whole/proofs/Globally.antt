@@ -7,7 +7,7 @@ use Rattle.sts_syntax.proofs.Laws.{declaration_parts}
 use Rattle.type_derive.specs.inner.Filled as b
 use Rattle.typed_trees.specs.declared.build_places.Plan.{Plan}
 use Rattle.typed_trees.specs.Sites as s
-use Rattle.typed_trees.specs.Sites.{made_of}
+use Rattle.typed_trees.proofs.Laws.{made_of}
 use Rattle.sts_whole.specs.Wholes as w
 use Rattle.typed_trees.proofs.Laws.{alone}
 

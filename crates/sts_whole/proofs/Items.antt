@@ -13,8 +13,8 @@ use Rattle.sts_scope.specs.Entries.{Naming, classes_in, item_entries}
 use Rattle.sts_scope.specs.Handlers.{item_routines, all_routines}
 use Rattle.type_derive.specs.Making.{Made}
 use Rattle.sts_scope.specs.Numbers.{Numbering}
-use Rattle.type_derive.specs.inner.FilledPrograms as p
-use Rattle.type_derive.specs.Programs.{◌before◌}
+use Rattle.typed_laws.specs.inner.FilledPrograms as p
+use Rattle.typed_laws.specs.Programs.{◌before◌}
 use Rattle.typed_numbers.specs.Building.{numbering_of}
 use Rattle.sts_whole.specs.declared.build_parts.Whole.{Whole}
 use Rattle.typed_trees.specs.declared.build_places.Plan.{Plan}

@@ -24,6 +24,7 @@ mod Takes
 pub mod Checked
 pub mod ClassParts
 pub mod Classes
+pub mod Before
 pub mod Constructors
 pub mod Counted
 pub mod Globally

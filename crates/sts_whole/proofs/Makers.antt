@@ -7,8 +7,8 @@ use Rattle.sts_syntax.specs.TypedTrees.{TypedTrees}
 use Rattle.sts_syntax.specs.TypedViews.{typed_tree, typed_trees}
 use Rattle.sts_scope.specs.declared.kinds.StaticType.{StaticType}
 use Rattle.sts_scope.specs.Kinds as kind
-use Rattle.type_derive.specs.Programs.{passed_on}
-use Rattle.sts_whole.specs.Wholes.{onto}
+use Rattle.typed_laws.specs.Programs.{passed_on}
+use Rattle.sts_whole.proofs.Before.{onto}
 use Rattle.typed_trees.proofs.Laws.{drop_next}
 
 pub onto_none : (all : List TypedExpr) → onto all e.none ≡ typed_trees all

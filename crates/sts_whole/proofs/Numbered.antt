@@ -13,7 +13,7 @@ use Rattle.sts_scope.specs.Handlers.{item_routines, all_routines}
 use Rattle.sts_scope.specs.Scopes.{all_names, library_entries, library_classes}
 use Rattle.text_sizes.specs.Numbered.{item_numbered, all_numbered}
 use Rattle.text_sizes.proofs.Laws.{item_routines_numbered}
-use Rattle.type_derive.specs.Accepted.{known}
+use Rattle.type_derive.specs.Derived.{known}
 use Rattle.typed_numbers.specs.Building.{numbering_of}
 use Rattle.typed_numbers.specs.Counts.{counts_fit}
 use Rattle.typed_trees.specs.declared.build_places.Plan.{Plan}

@@ -19,7 +19,8 @@ use Rattle.sts_grammar.specs.Texts as grammar
 use Rattle.sts_grammar.specs.Units.{IsProgram}
 use Rattle.sts_scope.specs.declared.kinds.StaticType.{StaticType}
 use Rattle.sts_scope.specs.Failures.{Failure}
-use Rattle.type_derive.specs.Accepted.{AreDerived, derivation, refusal, typed, IsAccepted, IsRefused}
+use Rattle.type_derive.specs.Derived.{AreDerived, derivation}
+use Rattle.typed_laws.specs.Accepted.{refusal, typed, IsAccepted, IsRefused}
 use Rattle.type_derive.specs.Laws.{IsOne}
 use Rattle.typed_laws.specs.LibraryLaws.{LibraryLeavesFirst}
 use Rattle.sts_whole.specs.Accepting.{Accepts, IsRefusedFor, TokensAreRefused, RefusesProgram}

@@ -33,8 +33,8 @@ use Rattle.type_derive.specs.Nodes.{initial_failure, own_bound, failures, statem
 use Rattle.type_derive.specs.Passes.{agrees, overrides_failure, item_overrides, all_overrides, globals_failure, main_failure, body_failure, own_super_call, made_failure, constructor_failure, members_nodes, item_nodes, nodes_failure}
 use Rattle.type_derive.specs.Passes as passes
 use Rattle.typed_limits.specs.Limits.{program_fits}
-use Rattle.type_derive.specs.Limits.{limits_failure}
-use Rattle.type_derive.specs.Accepted.{known, typed, text_failure, refusal}
+use Rattle.typed_laws.specs.Accepted.{limits_failure, typed, text_failure, refusal}
+use Rattle.type_derive.specs.Derived.{known}
 use Rattle.sts_whole.proofs.NodePlaces.{ParametersAt, RoutineAt, DeclarationAt, DeclarationsAt, StatementAt, StatementsAt, MemberAt, MembersAt, ItemAt, ProgramAt}
 use Rattle.sts_whole.proofs.FailurePlaces.{FailsAt, none_in, at_in, then_in, unless_in, own_in, written_in, bound_in, initial_in, failures_in, statement_in, statements_in}
 
@@ -251,15 +251,15 @@ module _ (P : ℕ → Type 0) where
     body_in : (self : This) (result : Option StaticType) (r : Routine) → RoutineAt P r → In (body_failure tables names k self result r)
     body_in self result (Does at params gives all arrow) h = statements_in P tables names k (within (parameter_locals names params) self result false) all h.3
 
-    super_call_in : (ts : Option (List StaticType)) (takes : List StaticType) (at : ℕ) → P at → In (own_super_call tables names k ts takes at)
+    super_call_in : (ts : Option (List StaticType)) (takes : List StaticType) (at : ℕ) → P at → In (own_super_call k ts takes at)
     super_call_in None takes at h = at_in Mismatch at h
     super_call_in (Some ts) takes at h = unless_in (all_go k.classes ts takes) Mismatch at h
 
     made_in : (p : NameScope) (at b : ℕ) (all : Statements) → P at → StatementsAt P all → In (made_failure tables names k p at b all)
     made_in p at b (also (Plain j (SuperCall i None args)) rest) g h =
-        then_in (failures tables names k p [] args) (own_super_call tables names k (types_of tables k p args) (maker_takes_of k.classes b) i then statements_failure tables names k p rest)
+        then_in (failures tables names k p [] args) (own_super_call k (types_of tables k p args) (maker_takes_of k.classes b) i then statements_failure tables names k p rest)
         (failures_in P tables names k p [] args h.0.1.1)
-        (then_in (own_super_call tables names k (types_of tables k p args) (maker_takes_of k.classes b) i) (statements_failure tables names k p rest)
+        (then_in (own_super_call k (types_of tables k p args) (maker_takes_of k.classes b) i) (statements_failure tables names k p rest)
         (super_call_in (types_of tables k p args) (maker_takes_of k.classes b) i h.0.1.0) (statements_in P tables names k p rest h.1))
     made_in p at b all g h = then_in (statements_failure tables names k p all) (failure_at Mismatch at) (statements_in P tables names k p all h) (at_in Mismatch at g)
 

@@ -16,8 +16,9 @@ use Rattle.sts_grammar.specs.Laws.{ProgramIsRead}
 use Rattle.sts_grammar.specs.ReadUnits.{read_program}
 use Rattle.sts_grammar.specs.Texts.{source, BeginsToken}
 use Rattle.sts_grammar.specs.Units.{IsProgram}
-use Rattle.type_derive.specs.Accepted.{AreDerived, DerivedTypesExist}
-use Rattle.type_derive.specs.inner.FilledTexts.{filled_program, filled_refusal}
+use Rattle.type_derive.specs.Derived.{AreDerived}
+use Rattle.type_derive.specs.Laws.{DerivedTypesExist}
+use Rattle.typed_laws.specs.inner.FilledTexts.{filled_program, filled_refusal}
 use Rattle.sts_whole.specs.Checking.{FilledIsTyped}
 use Rattle.sts_whole.specs.Accepting.{ReadsText, Accepts, IsRefusedFor}
 use Rattle.sts_lexer.specs.Laws.{SomeReading}

@@ -9,7 +9,7 @@ use Rattle.sts_scope.specs.Entries.{Naming, maker_takes, item_heads, heads_of}
 use Rattle.sts_scope.specs.Rules.{maker_from, maker_takes_of}
 use Rattle.sts_scope.specs.Scopes.{all_names}
 use Rattle.text_sizes.specs.Numbered.{members_numbered, item_numbered, all_numbered}
-use Rattle.type_derive.specs.Accepted.{known}
+use Rattle.type_derive.specs.Derived.{known}
 use Rattle.sts_whole.proofs.AtMost.{kinds_long}
 
 abbrev takes : Option (List StaticType) → ℕ

@@ -17,7 +17,7 @@ use Rattle.sts_grammar.specs.Texts.{source, no_entries}
 use Rattle.sts_grammar.specs.Texts as grammar
 use Rattle.sts_grammar.specs.Units.{IsProgram}
 use Rattle.sts_prelude.specs.Spelled.{IsLibraryTree}
-use Rattle.type_derive.specs.Accepted.{IsAccepted, IsRefused}
+use Rattle.typed_laws.specs.Accepted.{IsAccepted, IsRefused}
 
 -- The tree of the library of the board's interface, and the tokens of a text behind it: the tables have the library's names and texts first, and then those that the text
 -- adds, each numbered in the order in which it first appears.

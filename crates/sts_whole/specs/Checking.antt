@@ -7,8 +7,8 @@ use Rattle.sts_lexer.specs.declared.token.Token.{Token}
 use Rattle.sts_scope.specs.Failures.{Failure}
 use Rattle.sts_syntax.specs.Programs.{Program}
 use Rattle.sts_syntax.specs.TypedTrees.{TypedProgram}
-use Rattle.type_derive.specs.Accepted.{IsAccepted, IsRefused}
-use Rattle.type_derive.specs.inner.FilledTexts.{IsFilled, IsUnfilled}
+use Rattle.typed_laws.specs.Accepted.{IsAccepted, IsRefused}
+use Rattle.typed_laws.specs.inner.FilledTexts.{IsFilled, IsUnfilled}
 use Rattle.sts_whole.specs.Accepting.{ReadsText}
 
 -- refused with the first failure; want of memory says nothing

@@ -4,30 +4,29 @@ use Rattle.sts_syntax.specs.Types.{ValueType, Object, Nothing, value_types}
 use Rattle.sts_syntax.specs.declared.trees.Param.{Param}
 use Rattle.sts_syntax.specs.Views.{parameters}
 use Rattle.sts_syntax.specs.declared.typed.Spot.TheVariants.{Global}
-use Rattle.sts_syntax.specs.Trees.{Trees, Routine, Declaration, Declare, Declarations, Statement, Statements}
+use Rattle.sts_syntax.specs.Trees.{Routine, Declaration, Declare, Declarations, Statement, Statements}
 use Rattle.sts_syntax.specs.Programs.{ClassMember, TopLevel, Class, Function, Main, Program, class_members}
 use Rattle.sts_syntax.specs.Programs as m
-use Rattle.sts_syntax.specs.declared.typed.TypedExpr.{TypedExpr}
 use Rattle.sts_syntax.specs.declared.typed.TypedStmt.{TypedStmt}
-use Rattle.sts_syntax.specs.TypedViews.{typed_tree, typed_statement, typed_routines}
+use Rattle.sts_syntax.specs.TypedViews.{typed_statement, typed_routines}
 use Rattle.sts_syntax.specs.TypedTrees as e
-use Rattle.sts_syntax.specs.TypedTrees.{TypedTree, TypedTrees, more, TypedStatement, TypedStatements, TypedDeclaration, TypedRoutine, ClassEntry, TypedProgram}
+use Rattle.sts_syntax.specs.TypedTrees.{TypedTree, TypedTrees, TypedStatement, TypedStatements, TypedDeclaration, TypedRoutine, ClassEntry, TypedProgram}
 use Rattle.sts_scope.specs.declared.kinds.StaticType.{StaticType}
 use Rattle.sts_scope.specs.declared.entries.Entry.{Entry}
 use Rattle.sts_scope.specs.declared.entries.ClassHead.{ClassHead}
 use Rattle.sts_scope.specs.declared.known.This.{This}
 use Rattle.sts_scope.specs.Entries.{parameter_kinds, classes_in, item_entries}
-use Rattle.sts_scope.specs.Places.{outside}
 use Rattle.sts_scope.specs.Scopes.{is_global}
-use Rattle.sts_scope.specs.Rules.{kind_at, maker_takes_of}
+use Rattle.sts_scope.specs.Rules.{kind_at}
 use Rattle.type_derive.specs.inner.Filled as b
 use Rattle.sts_scope.specs.Handlers.{item_routines, all_routines}
 use Rattle.type_derive.specs.Making.{Made}
 use Rattle.type_derive.specs.inner.Filling.{Making, pure, ◌>=>◌}
 use Rattle.sts_scope.specs.Numbers.{place_among, field_names}
-use Rattle.type_derive.specs.inner.FilledPrograms as p
-use Rattle.type_derive.specs.Programs.{◌before◌, outer_site}
-pub use Rattle.type_derive.specs.Programs.{outer_site}
+use Rattle.typed_laws.specs.inner.FilledPrograms as p
+use Rattle.typed_laws.specs.Programs as tp
+use Rattle.typed_laws.specs.Programs.{◌before◌}
+pub use Rattle.typed_laws.specs.Programs.{outer_site}
 use Rattle.typed_numbers.specs.Building.{numbering_of}
 use Rattle.sts_whole.specs.declared.build_parts.ClassParts.{ClassParts}
 use Rattle.sts_whole.specs.declared.build_parts.Whole.{Whole}
@@ -77,11 +76,6 @@ abbrev pub global_made : Plan → b.Site → ℕ → Declaration → Making Type
 global_made l st number (Declare at x shape first) =
     s.first_made l st shape first >=> λ a. pure (record { name = Global number; first = a })
 
--- some expressions before others
-abbrev pub onto : List TypedExpr → TypedTrees → TypedTrees
-onto [] rest = rest
-onto (a ∷ all) rest = more (typed_tree a) (onto all rest)
-
 -- statements, as a list
 abbrev pub typed_list : List TypedStmt → List TypedStatement
 typed_list [] = []
@@ -114,17 +108,11 @@ abbrev pub initials_of : Plan → ClassParts → List TypedStatement
 initials_of l a = initials l a.class a.first.function a.first.declaration (class_members a.members.now)
 
 abbrev pub super_called : Plan → ℕ → TypedTrees → TypedStatement
-super_called l = p.super_called l.tables.now (naming l) l.known.now (numbering_of l.numbers.now)
+super_called l = tp.super_called (numbering_of l.numbers.now)
 
 -- statements behind some that are there
 abbrev pub behind_made : Plan → b.Site → List TypedStatement → Statements → Making TypedStatements
 behind_made l st first all = s.statements_made l st all >=> λ xs. pure (first before xs)
-
--- the call of the constructor of the base with this number, then the initialisers, then the statements behind the call
-abbrev pub headed_made : Plan → b.Site → ℕ → List TypedStatement → Trees → Statements → Making TypedStatements
-headed_made l st base inits args rest =
-    s.given_made l st (maker_takes_of l.known.now.classes base) args
-    >=> λ ys. behind_made l st (super_called l base ys ∷ inits) rest
 
 -- the statements of a written constructor
 unfoldable pub maker_statements : Plan → b.Site → Option ℕ → List TypedStatement → Statements → Making TypedStatements
@@ -134,13 +122,13 @@ abbrev pub constructor_made : Plan → ℕ → ℕ → List TypedStatement → R
 constructor_made l = p.constructor_made l.tables.now (naming l) l.known.now (numbering_of l.numbers.now)
 
 abbrev pub passes_on : Plan → Option ℕ → List StaticType → List TypedStatement
-passes_on l = p.passes_on l.tables.now (naming l) l.known.now (numbering_of l.numbers.now)
+passes_on l = tp.passes_on (numbering_of l.numbers.now)
 
 abbrev pub constructor_unwritten : Plan → ℕ → List TypedStatement → TypedRoutine
-constructor_unwritten l = p.constructor_unwritten l.tables.now (naming l) l.known.now (numbering_of l.numbers.now)
+constructor_unwritten l = tp.constructor_unwritten l.known.now (numbering_of l.numbers.now)
 
 abbrev pub unwritten_made : Plan → ℕ → ℕ → List TypedStatement → List TypedRoutine
-unwritten_made l = p.unwritten_made l.tables.now (naming l) l.known.now (numbering_of l.numbers.now)
+unwritten_made l = tp.unwritten_made l.known.now (numbering_of l.numbers.now)
 
 -- the functions of members, whose class has these initialisers
 abbrev pub members_made : Plan → ℕ → List TypedStatement → ℕ → ℕ → List ClassMember → List TypedRoutine

@@ -6,7 +6,7 @@ ghost use Rattle.sts_syntax.specs.TypedViews.{typed_trees, typed_routine, typed_
 ghost use Rattle.sts_syntax.specs.Views.{statements, routine};
 ghost use Rattle.sts_scope.specs.Kinds as kind;
 ghost use Rattle.sts_scope.specs.Lookup.{base_of as base};
-ghost use Rattle.type_derive.specs.Programs.{passed_on as passes};
+ghost use Rattle.typed_laws.specs.Programs.{passed_on as passes};
 ghost use Rattle.text_sizes.specs.Numbered as numbered;
 ghost use Rattle.typed_trees.specs.Fits.{RoutineFits};
 ghost use Rattle.typed_trees.specs.Sites as s;

@@ -6,12 +6,12 @@ ghost use Rattle.sts_syntax.specs.Programs.{Class, Function, Main, class_members
 ghost use Rattle.sts_syntax.specs.Views.{routine, statement};
 ghost use Rattle.sts_scope.specs.Scopes.{all_names, library_classes};
 ghost use Rattle.sts_scope.specs.Entries as entry;
-ghost use Rattle.type_derive.specs.Accepted as accepted;
-ghost use Rattle.type_derive.specs.inner.FilledTexts.{filled_program};
+ghost use Rattle.type_derive.specs.Derived as derived;
+ghost use Rattle.typed_laws.specs.inner.FilledTexts.{filled_program};
 ghost use Rattle.sts_scope.specs.Handlers as h;
-ghost use Rattle.type_derive.specs.Solved.{IsSolved};
+ghost use Rattle.derived_types.specs.Solved.{IsSolved};
 ghost use Rattle.sts_scope.specs.Numbers as number;
-ghost use Rattle.type_derive.specs.Programs.{◌before◌};
+ghost use Rattle.typed_laws.specs.Programs.{◌before◌};
 ghost use Rattle.typed_numbers.specs.Building.{numbering_of};
 ghost use Rattle.typed_numbers.specs.Counts.{counts_fit};
 ghost use Rattle.text_sizes.specs.Numbered as numbered;
@@ -309,7 +309,7 @@ fn build_planned(
     requires count { plan.now.numbers.now.library ≡ h.all_routines (top_levels library.now) }
     requires both { AreFew (top_levels library.now) (top_levels text.now) }
     requires names { (y : ℕ) → naming plan.now y ≡ all_names (top_levels library.now) (top_levels text.now) y }
-    requires known { plan.now.known.now ≡ accepted.known (top_levels library.now)
+    requires known { plan.now.known.now ≡ derived.known (top_levels library.now)
         (top_levels text.now) plan.now.known.now.kinds }
     requires numbers { numbering_of plan.now.numbers.now
         ≡ number.numbering (top_levels library.now ++ top_levels text.now) }

@@ -5,8 +5,8 @@ ghost use Rattle.sts_syntax.specs.TypedViews.{typed_program};
 ghost use Rattle.sts_base.specs.declared.refused.Code.TheVariants.{OverLimit};
 ghost use Rattle.sts_scope.specs.Failures.{Finds, unless};
 ghost use Rattle.typed_numbers.specs.Counts.{counts_fit};
-ghost use Rattle.type_derive.specs.Limits.{limits_failure};
-ghost use Rattle.type_derive.specs.inner.FilledTexts.{IsFilled};
+ghost use Rattle.typed_laws.specs.Accepted.{limits_failure};
+ghost use Rattle.typed_laws.specs.inner.FilledTexts.{IsFilled};
 ghost use Rattle.sts_whole.specs.Checking.{RefusesTrees};
 ghost use Rattle.sts_whole.specs.Few.{AreFew};
 

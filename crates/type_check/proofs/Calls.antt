@@ -13,7 +13,8 @@ use Rattle.sts_scope.specs.Codes.{why_call}
 use Rattle.sts_scope.specs.Places.{NameScope}
 use Rattle.sts_scope.specs.Rules.{goes, all_go, all_go_to, call_kind, items_type}
 use Rattle.type_derive.specs.declared.roles.Role.TheVariants.{Given}
-use Rattle.type_derive.specs.Shown.{goes_some, typed_go, typed_go_to}
+use Rattle.type_derive.specs.Shown.{goes_some}
+use Rattle.type_derive.proofs.Laws.{typed_go, typed_go_to}
 use Rattle.type_derive.specs.Typing.{◌>>=◌, Callee, type_of, types_of, called}
 use Rattle.type_check.specs.Seen.{fit_all, fit_one, listed_kind, called_kind, own_called_kind, kinds_given}
 
@@ -76,12 +77,12 @@ module _ (t : Tables) (k : Known) (p : NameScope) where
   fits_to u none = go_to_none k.classes u
   fits_to u (more e rest) = go_to_more k.classes u (type_of t k p Given e) (types_of t k p rest) ∙ ap (λ b. goes_some k.classes (type_of t k p Given e) u && b) (fits_to u rest)
 
-  pub called_is : (d : Option Callee) (args : Trees) → called t k d (types_of t k p args) ≡ called_kind k.classes d (kinds_given t k p [] args)
+  pub called_is : (d : Option Callee) (args : Trees) → called k d (types_of t k p args) ≡ called_kind k.classes d (kinds_given t k p [] args)
   called_is None args = refl
   called_is (Some c) args = call_if k.classes c.takes c.gives (types_of t k p args) ∙ ap (λ b. if b then c.gives else None) (fits args c.takes)
 
   pub own_called_is : (d : Option Callee) (args : Trees) (at : ℕ) →
-      own (called t k d (types_of t k p args)) (elim d [ None ↦ Mismatch | Some c ↦ why_call c.gives ]) at ≡ own_called_kind k d (kinds_given t k p [] args) at
+      own (called k d (types_of t k p args)) (elim d [ None ↦ Mismatch | Some c ↦ why_call c.gives ]) at ≡ own_called_kind k d (kinds_given t k p [] args) at
   own_called_is None args at = refl
   own_called_is (Some c) args at = ap (λ o. own o (why_call c.gives) at) (called_is (Some c) args)
 

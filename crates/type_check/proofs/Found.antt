@@ -75,7 +75,7 @@ apart : {A : Type 0} (v : A) → None ≡ Some v → ⊥
 apart v h = false≢true (ap is_some h)
 
 -- what names a part of the board's interface has no type
-no_space : {A : Type 0} (t : Tables) (k : Known) (p : NameScope) (x : ℕ) (f : Found) (named : List ℕ → Option A) (v : A) → (space_of t k x f >>= named) ≡ Some v → name_kind k p f ≡ None
+no_space : {A : Type 0} (t : Tables) (k : Known) (p : NameScope) (x : ℕ) (f : Found) (named : List ℕ → Option A) (v : A) → (space_of t x f >>= named) ≡ Some v → name_kind k p f ≡ None
 no_space t k p x found.Unknown named v h = refl
 no_space t k p x (found.Local i) named v h = absurd (apart v h)
 no_space t k p x (found.Global d) named v h = absurd (apart v h)
@@ -177,7 +177,7 @@ module _ (c : Context) (p : NameScope) (r : Role) where
   of_call at f args q =
       let t = c.tables.now in
       let k = c.known.now in
-      let own_so = own (elim q [ Some call ↦ if are_given t k p (row_of call).takes args then Some (board_kind (row_of call).gives) else None | None ↦ called t k (callee_of t k p f) (types_of t k p args) ])
+      let own_so = own (elim q [ Some call ↦ if are_given t k p (row_of call).takes args then Some (board_kind (row_of call).gives) else None | None ↦ called k (callee_of t k p f) (types_of t k p args) ])
       (elim q [ Some call ↦ if lacks_handler t k p (row_of call).takes args then BadHandler else Mismatch | None ↦ elim (callee_of t k p f) [ None ↦ Mismatch | Some d ↦ why_call d.gives ] ]) at in
       elim q [ Some call ↦ failures c p (row_of call).takes args then own_so | None ↦ failure c p Called f then failures c p [] args then own_so ]
 
@@ -208,25 +208,25 @@ module _ (c : Context) (p : NameScope) (r : Role) where
   call_typed at f args d os result hb hd ho seen =
       let t = c.tables.now in
       let k = c.known.now in
-      subst (λ q. IfOk result (λ s. s ≡ plain q)) (sym (ap (λ q. elim q [ Some call ↦ if are_given t k p (row_of call).takes args then Some (board_kind (row_of call).gives) else None | None ↦ called t k (callee_of t k p f) (types_of t k p args) ]) hb
+      subst (λ q. IfOk result (λ s. s ≡ plain q)) (sym (ap (λ q. elim q [ Some call ↦ if are_given t k p (row_of call).takes args then Some (board_kind (row_of call).gives) else None | None ↦ called k (callee_of t k p f) (types_of t k p args) ]) hb
       ∙ called_is t k p (callee_of t k p f) args ∙ ap (λ q. called_kind k.classes q (kinds_of c p [] args)) (sym hd) ∙ ap (λ q. called_kind k.classes d q) (sym ho))) seen
 
   pub make_found : (at x : ℕ) (args : Trees) (os : List (Option StaticType)) (result : Result Seen Refused) → failures c p [] args ≡ None → os ≡ kinds_of c p [] args →
-      (let f = finds c.tables.now c.known.now p x in Finds result (own (called_kind c.known.now.classes (made c.tables.now c.known.now f) os) (why_make f) at)) →
+      (let f = finds c.tables.now c.known.now p x in Finds result (own (called_kind c.known.now.classes (made c.known.now f) os) (why_make f) at)) →
       Finds result (failure c p r (Make at x args))
   make_found at x args os result ha ho found =
       let t = c.tables.now in
       let k = c.known.now in
       let f = finds t k p x in
-      subst (Finds result) (sym (ap (λ q. q then own (called t k (made t k f) (types_of t k p args)) (why_make f) at) ha
-      ∙ ap (λ q. own q (why_make f) at) (called_is t k p (made t k f) args ∙ ap (λ q. called_kind k.classes (made t k f) q) (sym ho)))) found
+      subst (Finds result) (sym (ap (λ q. q then own (called k (made k f) (types_of t k p args)) (why_make f) at) ha
+      ∙ ap (λ q. own q (why_make f) at) (called_is t k p (made k f) args ∙ ap (λ q. called_kind k.classes (made k f) q) (sym ho)))) found
 
   pub make_typed : (at x : ℕ) (args : Trees) (os : List (Option StaticType)) (result : Result Seen Refused) → os ≡ kinds_of c p [] args →
-      IfOk result (λ s. s ≡ plain (called_kind c.known.now.classes (made c.tables.now c.known.now (finds c.tables.now c.known.now p x)) os)) → IfOk result (λ s. s ≡ seen_of c p r (Make at x args))
+      IfOk result (λ s. s ≡ plain (called_kind c.known.now.classes (made c.known.now (finds c.tables.now c.known.now p x)) os)) → IfOk result (λ s. s ≡ seen_of c p r (Make at x args))
   make_typed at x args os result ho seen =
       let t = c.tables.now in
       let k = c.known.now in
-      let d = made t k (finds t k p x) in
+      let d = made k (finds t k p x) in
       subst (λ q. IfOk result (λ s. s ≡ plain q)) (sym (called_is t k p d args ∙ ap (λ q. called_kind k.classes d q) (sym ho))) seen
 
   pub super_found : (at m : ℕ) (args : Trees) (os : List (Option StaticType)) (result : Result Seen Refused) → failures c p [] args ≡ None → os ≡ kinds_of c p [] args →
@@ -237,7 +237,7 @@ module _ (c : Context) (p : NameScope) (r : Role) where
       let k = c.known.now in
       let d = super_callee t k p.this m in
       let why = cause_of t k p Free (SuperCall at (Some m) none) in
-      subst (Finds result) (sym (ap (λ q. q then own (called t k d (types_of t k p args)) why at) ha
+      subst (Finds result) (sym (ap (λ q. q then own (called k d (types_of t k p args)) why at) ha
       ∙ ap (λ q. own q why at) (called_is t k p d args ∙ ap (λ q. called_kind k.classes d q) (sym ho)))) found
 
   pub super_typed : (at m : ℕ) (args : Trees) (os : List (Option StaticType)) (result : Result Seen Refused) → os ≡ kinds_of c p [] args →

@@ -16,7 +16,7 @@ use Rattle.sts_scope.specs.Rules.{part_of, part_kind}
 use Rattle.type_derive.specs.declared.context.Context.{Context}
 use Rattle.type_derive.specs.declared.roles.Role.{Role}
 use Rattle.type_derive.specs.declared.roles.Role.TheVariants.{Free, Given, Called, Served}
-use Rattle.type_derive.specs.Naming.{naming}
+use Rattle.type_derive.specs.Scopes.{naming}
 use Rattle.type_derive.specs.Nodes.{unsuited, serves_itself}
 use Rattle.type_derive.specs.Typing.{◌>>=◌, finds, part_callee, constant_of, board_callee, type_of}
 use Rattle.type_check.specs.Contexts.{failure}
@@ -43,7 +43,7 @@ handler_own c p Served at body = if_not (serves_itself c.tables.now (naming c) c
 -- a member, by what names a part of the board's interface, and by the type and the failure of what stands before its dot
 module _ (t : Tables) (k : Known) (at m : ℕ) where
   abbrev member_suits : Role → Option ℤ → Option BoardCall → Option StaticType → Bool
-  member_suits Called z b o = (is_some z || is_some b) || is_some (o >>= λ u. part_callee t k (part_of t.names k u m))
+  member_suits Called z b o = (is_some z || is_some b) || is_some (o >>= λ u. part_callee k (part_of t.names k u m))
   member_suits r z b o = false
 
   abbrev pub of_member : Role → Option ℤ → Option BoardCall → Option StaticType → Option Failure → Option Failure

@@ -1,5 +1,5 @@
 -- Going through statements and declared names.
-use Rattle.std.proofs.Common.{◌≡◌, ℕ, ◌+◌, ◌<◌, Bool, not, Option, Some, None, List, length, get_or, drop, refl, sym, ap, ◌∙◌, subst, Result}
+use Rattle.std.proofs.Common.{◌≡◌, ℕ, ◌+◌, ◌<◌, Bool, true, false, not, Option, Some, None, List, length, get_or, drop, refl, sym, ap, ◌∙◌, subst, Result}
 use Rattle.std.specs.Prelude.{is_some}
 use Rattle.sts_base.specs.declared.refused.Refused.{Refused}
 use Rattle.sts_base.specs.declared.refused.Code.TheVariants.{Mismatch, UnknownName, NeedsType}
@@ -22,17 +22,21 @@ use Rattle.type_derive.specs.declared.roles.Role.{Role}
 use Rattle.type_derive.specs.declared.roles.Role.TheVariants.{Free}
 use Rattle.type_derive.specs.Typing.{fits, type_of}
 use Rattle.sts_scope.proofs.Laws.{drop_at}
-use Rattle.type_derive.specs.Moves.{Extends}
+use Rattle.type_derive.specs.Scopes.{Extends, naming}
 use Rattle.type_derive.specs.Returns as derive
 use Rattle.type_derive.specs.Nodes as node
 use Rattle.type_derive.proofs.Laws.{stays, further, extends_to, after_extends}
 use Rattle.type_derive.specs.declared.context.Context.{Context}
 use Rattle.type_check.specs.Bounds as bounds
 use Rattle.type_check.specs.Seen.{is_test, initial_kind}
-use Rattle.type_derive.specs.Naming.{naming}
 use Rattle.type_check.specs.Contexts.{failure, first_failure, optional_failure, initial_failure, after_first, statement_failure, statements_failure, declaration_failure, declarations_failure, declared, all_declared, after}
 
-pub present_is : (e : Option Expr) → bounds.is_present (optional_expression e) ≡ is_some e
+-- there is an initialiser
+abbrev pub is_present : OptionalTree → Bool
+is_present absent = false
+is_present (present e) = true
+
+pub present_is : (e : Option Expr) → is_present (optional_expression e) ≡ is_some e
 present_is None = refl
 present_is (Some e) = refl
 
@@ -67,13 +71,9 @@ module _ (c : Context) where
       ap (λ x. all_declared c x fixed (declarations (drop (i + 1) each))) h ∙ sym (ap (λ xs. all_declared c p fixed (declarations xs)) (drop_at each i b lt is)) ∙ rest
 
   -- a test that may be left out
-  pub test_is : (p : NameScope) (e : OptionalTree) (at : ℕ) → node.test_failure c.tables.now (naming c) c.known.now p e at ≡ unless (is_test c.tables.now c.known.now p e) Mismatch at
+  pub test_is : (p : NameScope) (e : OptionalTree) (at : ℕ) → node.test_failure c.tables.now c.known.now p e at ≡ unless (is_test c.tables.now c.known.now p e) Mismatch at
   test_is p absent at = refl
   test_is p (present e) at = refl
-
-  pub items_is : (o : Option StaticType) → derive.items_of c.tables.now (naming c) c.known.now o ≡ bounds.items_of o
-  items_is None = refl
-  items_is (Some t) = refl
 
   -- what a declared name is given
   pub bound_is : (p : NameScope) (shape : Option Annotation) (e : OptionalTree) →
@@ -84,7 +84,7 @@ module _ (c : Context) where
 
   pub own_bound_is : (p : NameScope) (shape : Option Annotation) (e : OptionalTree) (at : ℕ) →
       node.own_bound c.tables.now (naming c) c.known.now p shape e at
-      ≡ bounds.bound_failure (naming c) c.known.now shape (bounds.is_present e) (initial_kind c.tables.now c.known.now p shape e) at
+      ≡ bounds.bound_failure (naming c) c.known.now shape (is_present e) (initial_kind c.tables.now c.known.now p shape e) at
   own_bound_is p None e at = ap (λ o. own o NeedsType at) (bound_is p None e)
   own_bound_is p (Some a) absent at = refl
   own_bound_is p (Some a) (present e) at = refl
@@ -94,7 +94,7 @@ module _ (c : Context) where
       statement_failure c p (For at first test step a)
       ≡ (first_failure c q first then optional_failure c r test then optional_failure c r step then statement_failure c (inner r) a then unless (is_test c.tables.now c.known.now r test) Mismatch at)
   for_step p q r at first test step a hq hr =
-      let rest = λ (x : NameScope). optional_failure c x test then optional_failure c x step then statement_failure c (inner x) a then node.test_failure c.tables.now (naming c) c.known.now x test at in
+      let rest = λ (x : NameScope). optional_failure c x test then optional_failure c x step then statement_failure c (inner x) a then node.test_failure c.tables.now c.known.now x test at in
       ap (λ x. first_failure c x first then rest (after_first c x first)) (sym hq) ∙ ap (λ x. first_failure c q first then rest x) (sym hr)
       ∙ ap (λ y. first_failure c q first then optional_failure c r test then optional_failure c r step then statement_failure c (inner r) a then y) (test_is r test at)
 
@@ -102,13 +102,13 @@ module _ (c : Context) where
   pub declaration_step : (p : NameScope) (b : Binding) → declaration_failure c p (declaration b)
       ≡ (written_failure (naming c) (out-Binding b).at (optional_annotation (out-Binding b).shape)
       then initial_failure c p (optional_annotation (out-Binding b).shape) (optional_expression (out-Binding b).first)
-      then node.own_local c.tables.now (naming c) c.known.now p (out-Binding b).name (out-Binding b).at
+      then node.own_local c.tables.now p (out-Binding b).name (out-Binding b).at
       then bounds.bound_failure (naming c) c.known.now (optional_annotation (out-Binding b).shape) (is_some (out-Binding b).first)
       (initial_kind c.tables.now c.known.now p (optional_annotation (out-Binding b).shape) (optional_expression (out-Binding b).first)) (out-Binding b).at)
   declaration_step p b =
       let shape = optional_annotation (out-Binding b).shape in
       let first = optional_expression (out-Binding b).first in
-      let local = node.own_local c.tables.now (naming c) c.known.now p (out-Binding b).name (out-Binding b).at in
+      let local = node.own_local c.tables.now p (out-Binding b).name (out-Binding b).at in
       let k = initial_kind c.tables.now c.known.now p shape first in
       ap (declaration_failure c p) (declaration_parts b)
       ∙ ap (λ o. written_failure (naming c) (out-Binding b).at shape then initial_failure c p shape first then local then o)
@@ -124,7 +124,7 @@ module _ (c : Context) where
 
   -- a loop through an array
   pub for_of_step : (p q : NameScope) (at x : ℕ) (fixed : Bool) (list : Tree) (a : Statement) (o : Option StaticType) → failure c p Free list ≡ None → o ≡ type_of c.tables.now c.known.now p Free list →
-      q ≡ with (inner p) x (bounds.items_of o) fixed →
+      q ≡ with (inner p) x (derive.items_of o) fixed →
       statement_failure c p (ForOf at fixed x list a) ≡ (statement_failure c (inner q) a then unless (not (is_dollar c.tables.now.names x)) UnknownName at then unless (node.is_list o) Mismatch at)
   for_of_step p q at x fixed list a o hf ho hq =
       let t = c.tables.now in
@@ -132,8 +132,8 @@ module _ (c : Context) where
       let n = naming c in
       let dollar = unless (not (is_dollar t.names x)) UnknownName at in
       let u = type_of t k p Free list in
-      ap (λ y. y then statement_failure c (inner (derive.looped t n k p fixed x list)) a then dollar then unless (node.is_list u) Mismatch at) hf
-      ∙ ap (λ y. statement_failure c (inner (with (inner p) x y fixed)) a then dollar then unless (node.is_list u) Mismatch at) (items_is u ∙ ap bounds.items_of (sym ho))
+      ap (λ y. y then statement_failure c (inner (derive.looped t k p fixed x list)) a then dollar then unless (node.is_list u) Mismatch at) hf
+      ∙ ap (λ y. statement_failure c (inner (with (inner p) x y fixed)) a then dollar then unless (node.is_list u) Mismatch at) (ap derive.items_of (sym ho))
       ∙ ap (λ y. statement_failure c (inner y) a then dollar then unless (node.is_list u) Mismatch at) (sym hq)
       ∙ ap (λ y. statement_failure c (inner q) a then dollar then unless y Mismatch at) (ap node.is_list (sym ho))
 

@@ -20,13 +20,13 @@ use Rattle.sts_scope.specs.Kinds.{same}
 use Rattle.sts_scope.specs.Places.{NameScope, outside}
 use Rattle.sts_scope.specs.declared.known.This.{This}
 use Rattle.sts_scope.specs.Rules.{maker_takes_of}
-use Rattle.type_derive.specs.Shown.{typed_go}
+use Rattle.type_derive.proofs.Laws.{typed_go}
 use Rattle.type_derive.specs.Typing.{types_of}
 use Rattle.type_derive.specs.Nodes.{failures, statements_failure}
 use Rattle.type_derive.specs.Passes.{same_kinds, overrides_failure, members_nodes, own_super_call, made_failure, outside_failure}
 use Rattle.type_derive.specs.declared.context.Context.{Context}
 use Rattle.type_check.specs.Bounds.{bound_failure}
-use Rattle.type_derive.specs.Naming.{naming}
+use Rattle.type_derive.specs.Scopes.{naming}
 use Rattle.type_check.specs.Contexts.{initial_failure}
 use Rattle.type_derive.specs.Heads.{SuperHead, head_of}
 use Rattle.type_check.specs.Seen.{fit_all, kinds_given, initial_kind}
@@ -75,7 +75,7 @@ members_step tables names k c d (Field a) rest = let e : suc d ≡ d + 1 = omega
 members_step tables names k c d (Method x r) rest = let e : suc d ≡ d + 1 = omega arith in ap (λ n. member_nodes tables names k c d (Method x r) then members_nodes tables names k c n rest) e
 members_step tables names k c d (Constructor r) rest = let e : d ≡ d + 0 = omega arith in ap (λ n. member_nodes tables names k c d (Constructor r) then members_nodes tables names k c n rest) e
 
-own_go : (tables : Tables) (names : Naming) (k : Known) (os : Option (List StaticType)) (takes : List StaticType) (at : ℕ) → own_super_call tables names k os takes at ≡ unless (typed_go k.classes os takes) Mismatch at
+own_go : (tables : Tables) (names : Naming) (k : Known) (os : Option (List StaticType)) (takes : List StaticType) (at : ℕ) → own_super_call k os takes at ≡ unless (typed_go k.classes os takes) Mismatch at
 own_go tables names k None takes at = refl
 own_go tables names k (Some us) takes at = refl
 
@@ -162,7 +162,7 @@ module _ (tables : Tables) (names : Naming) (k : Known) (p : NameScope) (i b : �
   made_with (t.Plain j (t.SuperCall at (Some m) args)) rest h e = absurd cc
   made_with (t.Plain j (t.SuperCall at None args)) rest h e =
       let same : record { at = at; args = args } ≡ h = cc in
-      then_both (failures tables names k p [] args) (own_super_call tables names k (types_of tables k p args) (maker_takes_of k.classes b) at) (statements_failure tables names k p rest)
+      then_both (failures tables names k p [] args) (own_super_call k (types_of tables k p args) (maker_takes_of k.classes b) at) (statements_failure tables names k p rest)
       ∙ ap (λ (y : SuperHead). super_failure tables names k p y.at b y.args then statements_failure tables names k p rest) same
 
 pub statements_first : (xs : List Stmt) (x : Stmt) → 1 ≤ length xs → x ≡ get_or xs 0 x → statements xs ≡ also (statement x) (statements (drop 1 xs))

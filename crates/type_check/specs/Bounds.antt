@@ -1,23 +1,17 @@
 -- What a declared name is given, by the type of its initialiser.
-use Rattle.std.specs.Prelude.{ℕ, Bool, true, false, Option, Some, None, if◌then◌else◌}
+use Rattle.std.specs.Prelude.{ℕ, Bool, true, false, Option, Some, None}
 use Rattle.std.specs.declared.alloc.Global.{Global}
 use Rattle.std.specs.declared.boxed.Box.{Box}
 use Rattle.sts_base.specs.declared.refused.Code.TheVariants.{Mismatch, NeedsType}
 use Rattle.sts_syntax.specs.declared.trees.Stmt.{Stmt}
 use Rattle.sts_syntax.specs.Annotations.{Annotation}
-use Rattle.sts_syntax.specs.Trees.{OptionalTree, absent, present, OptionalStatement, omitted, written}
+use Rattle.sts_syntax.specs.Trees.{OptionalStatement, omitted, written}
 use Rattle.sts_syntax.specs.Views.{statement}
 use Rattle.sts_scope.specs.declared.kinds.StaticType.{StaticType}
 use Rattle.sts_scope.specs.declared.known.Known.{Known}
 use Rattle.sts_scope.specs.Entries.{Naming, kind_of}
 use Rattle.sts_scope.specs.Failures.{Failure, unless, own}
-use Rattle.sts_scope.specs.Kinds.{is_array, item}
 use Rattle.type_derive.specs.Typing.{fits}
-
--- there is an initialiser
-abbrev pub is_present : OptionalTree → Bool
-is_present absent = false
-is_present (present e) = true
 
 -- the type that is written, else the initialiser's
 abbrev pub bound_kind : Naming → Option Annotation → Option StaticType → Option StaticType
@@ -29,11 +23,6 @@ abbrev pub bound_failure : Naming → Known → Option Annotation → Bool → O
 bound_failure names k None there first at = own first NeedsType at
 bound_failure names k (Some a) false first at = None
 bound_failure names k (Some a) true first at = unless (fits k first (kind_of names a)) Mismatch at
-
--- the type of the items that a loop goes through
-abbrev pub items_of : Option StaticType → Option StaticType
-items_of None = None
-items_of (Some t) = if is_array t then Some (item t) else None
 
 -- a statement that may be left out
 abbrev pub optional_boxed : Option (Box Stmt Global) → OptionalStatement

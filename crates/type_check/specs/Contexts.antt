@@ -11,7 +11,7 @@ use Rattle.type_derive.specs.declared.roles.Role.{Role}
 use Rattle.type_derive.specs.Nodes as node
 use Rattle.type_derive.specs.Returns as derive
 use Rattle.type_derive.specs.declared.context.Context.{Context}
-use Rattle.type_derive.specs.Naming.{naming}
+use Rattle.type_derive.specs.Scopes.{naming}
 use Rattle.type_check.specs.declared.seen.Seen.{Seen}
 use Rattle.type_check.specs.Seen.{seen, kinds_given}
 

@@ -66,7 +66,7 @@ own_called_kind k (Some c) os at = own (called_kind k.classes (Some c) os) (why_
 
 -- the method of a base that is called
 abbrev pub super_callee : Tables → Known → Self → ℕ → Option Callee
-super_callee tables k this m = super_method tables k this m >>= λ d. Some (callee (takes_at k.entries d) (kind_at k d))
+super_callee tables k this m = super_method k this m >>= λ d. Some (callee (takes_at k.entries d) (kind_at k d))
 
 module _ (tables : Tables) (k : Known) where
   -- what stands behind the dot of what has a type
@@ -96,7 +96,7 @@ module _ (tables : Tables) (k : Known) where
 
   -- the failure of a name, by what it stands for
   abbrev pub name_suits : Role → Found → Bool
-  name_suits Called f = is_some (named_callee tables k f)
+  name_suits Called f = is_some (named_callee k f)
   name_suits Served f = serves k f
   name_suits r f = false
 
@@ -106,7 +106,7 @@ module _ (tables : Tables) (k : Known) where
   -- the failure of a member, by what it is, and by the type of what stands before its dot
   abbrev pub own_part : Role → Part → ℕ → Option Failure
   own_part r part at =
-      if is_called r && is_some (part_callee tables k part) then None else own (part_kind k part) (why_part part) at
+      if is_called r && is_some (part_callee k part) then None else own (part_kind k part) (why_part part) at
 
   abbrev pub own_member : Role → Option StaticType → ℕ → ℕ → Option Failure
   own_member r None m at = failure_at Mismatch at

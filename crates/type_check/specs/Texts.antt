@@ -33,7 +33,7 @@ member_nodes tables names k c d (Constructor r) =
 abbrev pub super_failure : Tables → Naming → Known → NameScope → ℕ → ℕ → Trees → Option Failure
 super_failure tables names k p at b args =
     failures tables names k p [] args
-    then own_super_call tables names k (types_of tables k p args) (maker_takes_of k.classes b) at
+    then own_super_call k (types_of tables k p args) (maker_takes_of k.classes b) at
 
 -- the statements of a constructor without it, of a class with a base
 abbrev pub unmade_failure : Tables → Naming → Known → NameScope → ℕ → Statements → Option Failure

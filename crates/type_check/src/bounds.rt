@@ -8,9 +8,8 @@ ghost use Rattle.sts_scope.specs.Rules as rule;
 ghost use Rattle.sts_scope.specs.Values.{value_at};
 ghost use Rattle.type_derive.specs.Nodes as node;
 ghost use Rattle.type_derive.specs.Typing as typing;
-ghost use Rattle.type_derive.specs.Scopes.{place};
+ghost use Rattle.type_derive.specs.Scopes.{place, naming};
 ghost use Rattle.type_check.specs.Bounds as bounds;
-ghost use Rattle.type_derive.specs.Naming.{naming};
 
 use sts_base::{Code, Refused};
 use sts_scope::{
@@ -93,7 +92,7 @@ pub fn fits(known: &Environment, s: Option<StaticType>, t: Option<StaticType>) -
 
 /// A name that is declared in a block begins with no `$` and is no second one.
 pub fn check_local(context: &Context, scope: &Scope, x: u32, at: u32) -> Result<(), Refused>
-    ensures { Finds result (node.own_local context.now.tables.now (naming context.now) context.now.known.now
+    ensures { Finds result (node.own_local context.now.tables.now
         (place scope.now) x at) }
 {
     unless(!is_dollar(context.tables, x), Code::UnknownName, at)?;

@@ -8,14 +8,12 @@ ghost use Rattle.sts_scope.specs.Failures.{Finds, ◌then◌};
 ghost use Rattle.sts_scope.specs.Places as name;
 ghost use Rattle.sts_scope.specs.Rules as rule;
 ghost use Rattle.type_derive.specs.declared.roles.Role.TheVariants as role;
-ghost use Rattle.type_derive.specs.Scopes.{place};
+ghost use Rattle.type_derive.specs.Scopes.{place, naming, Extends};
 ghost use Rattle.type_derive.specs.Typing as typing;
 ghost use Rattle.sts_scope.specs.Kinds as kind;
 ghost use Rattle.type_check.specs.Bounds.{optional_boxed};
 ghost use Rattle.type_check.specs.Contexts as c;
 ghost use Rattle.type_derive.specs.Nodes as node;
-ghost use Rattle.type_derive.specs.Naming.{naming};
-ghost use Rattle.type_derive.specs.Moves.{Extends};
 ghost use Rattle.type_check.specs.Seen.{is_served, is_test, initial_kind};
 
 use crate::bounds::{

@@ -12,11 +12,10 @@ ghost use Rattle.sts_scope.specs.Rules as rule;
 ghost use Rattle.sts_scope.specs.Codes as cause;
 ghost use Rattle.type_derive.specs.Nodes as node;
 ghost use Rattle.type_derive.specs.declared.roles.Role.TheVariants as role;
-ghost use Rattle.type_derive.specs.Scopes.{place};
+ghost use Rattle.type_derive.specs.Scopes.{place, naming};
 ghost use Rattle.type_derive.specs.Shown.{shown, all_shown};
 ghost use Rattle.type_derive.specs.Typing as typing;
 ghost use Rattle.type_derive.specs.Typing.{◌>>=◌ as bind};
-ghost use Rattle.type_derive.specs.Naming.{naming};
 ghost use Rattle.type_check.specs.Seen.{is_called, is_served, name_suits, own_name, own_part, own_member, board_cause, plain, part_at, member, kinds_given, listed_kind, called_kind, own_called_kind, super_callee, board_kind_of};
 
 use crate::arguments::{are_given, call_type, items_kind, lacks_handler};
@@ -57,7 +56,7 @@ pub fn is_served(role: Role) -> bool
 
 /// What is called by its name.
 fn is_routine(found: Found) -> bool
-    ensures { (tables : _) → (known : _) → result ≡ is_some (typing.named_callee tables known found) }
+    ensures { (known : _) → result ≡ is_some (typing.named_callee known found) }
 {
     match found {
         Found::Function(_) => true,
@@ -128,8 +127,8 @@ pub fn this_seen(scope: &Scope, at: u32) -> Result<Seen, Refused>
 
 /// What may be called behind a dot, where it is called.
 fn is_callee(role: Role, part: Part) -> bool
-    ensures { (tables : _) → (known : _) → result
-        ≡ (is_called role && is_some (typing.part_callee tables known part)) }
+    ensures { (known : _) → result
+        ≡ (is_called role && is_some (typing.part_callee known part)) }
 {
     match part {
         Part::Method(_) => is_called(role),
@@ -286,10 +285,10 @@ pub fn make_seen(
     ensures found { let f = typing.finds context.now.tables.now context.now.known.now
         (place scope.now) x in Finds result
         (failure.own (called_kind context.now.known.now.classes
-        (typing.made context.now.tables.now context.now.known.now f) kinds.now) (cause.why_make f) at) }
+        (typing.made context.now.known.now f) kinds.now) (cause.why_make f) at) }
     ensures seen { let f = typing.finds context.now.tables.now context.now.known.now (place scope.now) x in IfOk result
         (λ s. s ≡ plain (called_kind context.now.known.now.classes
-        (typing.made context.now.tables.now context.now.known.now f) kinds.now)) }
+        (typing.made context.now.known.now f) kinds.now)) }
 {
     let found = name_found(context.tables, context.known, scope, x);
     match made(found) {

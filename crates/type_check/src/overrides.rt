@@ -10,7 +10,7 @@ ghost use Rattle.sts_scope.specs.Headings as heading;
 ghost use Rattle.sts_scope.specs.Lookup as look;
 ghost use Rattle.text_headings.specs.Standing.{classes_before, IsItemAt, IsTextAt};
 ghost use Rattle.type_derive.specs.Passes as pass;
-ghost use Rattle.type_derive.specs.Naming.{naming};
+ghost use Rattle.type_derive.specs.Scopes.{naming};
 ghost use Rattle.type_check.specs.Texts.{override_failure};
 
 use sts_base::{Code, Refused};

@@ -9,9 +9,8 @@ ghost use Rattle.sts_scope.specs.Places as name;
 ghost use Rattle.sts_scope.specs.declared.known.This.TheVariants as this;
 ghost use Rattle.text_headings.specs.Standing.{classes_before, IsItemAt, IsTextAt};
 ghost use Rattle.type_derive.specs.Passes as pass;
-ghost use Rattle.type_derive.specs.Scopes.{place};
+ghost use Rattle.type_derive.specs.Scopes.{place, naming};
 ghost use Rattle.type_check.specs.Contexts as c;
-ghost use Rattle.type_derive.specs.Naming.{naming};
 ghost use Rattle.type_check.specs.Texts.{member_nodes, super_failure, unmade_failure};
 
 use crate::arguments::all_go;

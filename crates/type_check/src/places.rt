@@ -2,7 +2,7 @@
 ghost use Rattle.std.specs.Prelude.{◌≡◌, length, IfOk, IfErr, OnOk};
 ghost use Rattle.sts_scope.specs.Places as name;
 ghost use Rattle.type_derive.specs.Scopes.{place};
-ghost use Rattle.type_check.specs.Bounds as bounds;
+ghost use Rattle.type_derive.specs.Returns.{items_of};
 
 use sts_base::Refused;
 use sts_scope::{StaticType, is_array, item, or_no_memory};
@@ -16,7 +16,7 @@ pub fn enter_loop(
     fixed: bool,
 ) -> Result<Mark, Refused>
     ensures place { OnOk result (place scope.new
-        ≡ name.with (name.inner (place scope.old)) x (bounds.items_of kind) fixed) }
+        ≡ name.with (name.inner (place scope.old)) x (items_of kind) fixed) }
     ensures locals { IfOk result (λ m. m.locals ≡ length (place scope.old).locals) }
     ensures block { IfOk result (λ m. m.block ≡ (place scope.old).block) }
     ensures err { IfErr result (λ e. e ≡ Refused.NoMemory) }
@@ -28,7 +28,7 @@ pub fn enter_loop(
 
 /// The type of the items that a loop goes through.
 fn listed_kind(kind: Option<StaticType>) -> Option<StaticType>
-    ensures { result ≡ bounds.items_of kind }
+    ensures { result ≡ items_of kind }
 {
     match kind {
         None => None,

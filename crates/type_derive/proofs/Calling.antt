@@ -20,8 +20,8 @@ name_is e x is = ap (node_tree e.at) is
 pub member_is : (e : Expr) (a : Box Expr Global) (m : ℕ) → e.node ≡ n.Member a m → tree e ≡ Member e.at (tree a.value) m
 member_is e a m is = ap (node_tree e.at) is
 
-pub method_found : (t : Tables) (k : Known) (c m d : ℕ) → inherited k.entries k.classes c m ≡ Some d → super_method t k (this.Object c) m ≡ method_of t k (Some d)
-method_found t k c m d h = ap (method_of t k) h
+pub method_found : (k : Known) (c m d : ℕ) → inherited k.entries k.classes c m ≡ Some d → super_method k (this.Object c) m ≡ method_of k (Some d)
+method_found k c m d h = ap (method_of k) h
 
 pub member_called : (t : Tables) (k : Known) (p : NameScope) (at m x : ℕ) (a : Tree) → Some (spelling t x) ≡ space t k p a → board_callee t k p (Member at a m) ≡ call_named (spelling t x) (spelling t m)
 member_called t k p at m x a h = ap (λ o. o >>= λ s. call_named s (spelling t m)) (sym h)

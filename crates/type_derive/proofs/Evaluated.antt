@@ -22,7 +22,8 @@ use Rattle.type_derive.specs.declared.boards.BoardTakes as rust_row
 use Rattle.type_derive.specs.declared.callees.Called.{Called}
 use Rattle.type_derive.specs.declared.roles.Role.{Role}
 use Rattle.type_derive.specs.declared.roles.Role.TheVariants.{Free, Given}
-use Rattle.type_derive.specs.Shown.{shown, all_shown, goes_some, goes_first, typed_go, typed_go_to, fits_some, BoardRow, row_called, row_shown, board_given}
+use Rattle.type_derive.specs.Shown.{shown, all_shown, goes_some, goes_first, fits_some, BoardRow, row_called, row_shown, board_given}
+use Rattle.type_derive.proofs.Going.{typed_go, typed_go_to}
 use Rattle.type_derive.specs.Typing.{◌>>=◌, type_of, types_of, called, constant_of, settable, are_given, board_callee, callee_of, board_kind}
 use Rattle.std.proofs.Math.Seq.{drop-nil}
 use Rattle.std.proofs.Math.Dec.{leb-zero, leb-suc-zero, leb-suc-suc}
@@ -128,7 +129,7 @@ none_left classes [] n = ap (all_go classes []) (drop-nil n) ∙ sym (leb-zero n
 none_left classes (t ∷ ts) zero = sym (leb-suc-zero (length ts))
 none_left classes (t ∷ ts) (suc n) = none_left classes ts n ∙ sym (leb-suc-suc (length ts) n)
 
-called_is : (t : Tables) (k : Known) (d : Called) (us : Option (List StaticType)) → (if typed_go k.classes us (shown k d).takes then (shown k d).gives else None) ≡ called t k (Some (shown k d)) us
+called_is : (t : Tables) (k : Known) (d : Called) (us : Option (List StaticType)) → (if typed_go k.classes us (shown k d).takes then (shown k d).gives else None) ≡ called k (Some (shown k d)) us
 unfolding call_kind
 called_is t k d None = refl
 called_is t k d (Some us) = refl
@@ -136,13 +137,13 @@ called_is t k d (Some us) = refl
 pub go_ends : (t : Tables) (k : Known) (p : NameScope) (args : List Expr) (i : ℕ) (takes : List StaticType) (fits all : Bool) (o : Option Called) (d : Called) (v : Option StaticType) →
     length args ≤ i → i ≤ length args → o ≡ Some d → takes ≡ (shown k d).takes →
     (fits && typed_go k.classes (types_of t k p (trees (drop i args))) (drop i takes)) ≡ typed_go k.classes (types_of t k p (trees args)) takes →
-    all ≡ (fits && nat_le (length takes) (length args)) → v ≡ (if all then (shown k d).gives else None) → v ≡ called t k (all_shown k o) (types_of t k p (trees args))
+    all ≡ (fits && nat_le (length takes) (length args)) → v ≡ (if all then (shown k d).gives else None) → v ≡ called k (all_shown k o) (types_of t k p (trees args))
 go_ends t k p args i takes fits all o d v ge le is ht h ha hv =
     let e : i ≡ length args = omega arith in
     let end : typed_go k.classes (types_of t k p (trees (drop i args))) (drop i takes) ≡ nat_le (length takes) (length args) =
     ap (λ xs. typed_go k.classes (types_of t k p (trees xs)) (drop i takes)) (drop_end args i ge) ∙ none_left k.classes takes i ∙ ap (nat_le (length takes)) e in
     hv ∙ ap (λ b. if b then (shown k d).gives else None) (ha ∙ ap (λ b. fits && b) (sym end) ∙ h ∙ ap (typed_go k.classes (types_of t k p (trees args))) ht)
-    ∙ called_is t k d (types_of t k p (trees args)) ∙ ap (λ c. called t k (all_shown k c) (types_of t k p (trees args))) (sym is)
+    ∙ called_is t k d (types_of t k p (trees args)) ∙ ap (λ c. called k (all_shown k c) (types_of t k p (trees args))) (sym is)
 
 -- Items of a list.
 all_first : (classes : List ClassHead) (s : StaticType) (o : Option StaticType) (us : Option (List StaticType)) →
@@ -259,7 +260,7 @@ pub call_board : (t : Tables) (k : Known) (p : NameScope) (r : Role) (at : ℕ) 
     board_given t k p (option_map row_shown row) args ≡ type_of t k p r (Call at f args)
 call_board t k p r at f args row b h g y =
     ap (λ o. board_given t k p o args) h
-    ∙ sym (by_row t k p (board_callee t k p f) args (called t k (callee_of t k p f) (types_of t k p args)) b (some_row row (option_map row_called (board_callee t k p f)) b h g) y)
+    ∙ sym (by_row t k p (board_callee t k p f) args (called k (callee_of t k p f) (types_of t k p args)) b (some_row row (option_map row_called (board_callee t k p f)) b h g) y)
 
 no_row : (o : Option BoardCall) (b : Bool) → b ≡ is_some (option_map row_called o) → b ≡ false → o ≡ None
 no_row None b h g = refl
@@ -267,7 +268,7 @@ no_row (Some c) b h g = absurd (cc)
 
 pub call_other : (t : Tables) (k : Known) (p : NameScope) (r : Role) (at : ℕ) (f : Tree) (args : Trees) (row : Option rust_row.BoardTakes) (b : Bool) →
     option_map row_shown row ≡ option_map row_called (board_callee t k p f) → b ≡ is_some row → b ≡ false →
-    type_of t k p r (Call at f args) ≡ called t k (callee_of t k p f) (types_of t k p args)
+    type_of t k p r (Call at f args) ≡ called k (callee_of t k p f) (types_of t k p args)
 call_other t k p r at f args row b h g y =
-    ap (λ o. elim o as (λ x. Option StaticType) [ Some c ↦ if are_given t k p (row_of c).takes args then Some (board_kind (row_of c).gives) else None | None ↦ called t k (callee_of t k p f) (types_of t k p args) ])
+    ap (λ o. elim o as (λ x. Option StaticType) [ Some c ↦ if are_given t k p (row_of c).takes args then Some (board_kind (row_of c).gives) else None | None ↦ called k (callee_of t k p f) (types_of t k p args) ])
     (no_row (board_callee t k p f) b (some_row row (option_map row_called (board_callee t k p f)) b h g) y)

@@ -26,7 +26,13 @@ use Rattle.type_derive.specs.declared.roles.Role.{Role}
 use Rattle.type_derive.specs.declared.roles.Role.TheVariants.{Free, Given}
 use Rattle.type_derive.specs.Typing.{◌>>=◌, Callee, callee, finds, space_of, space, constant_of, own_call, board_callee, named_callee, part_callee, super_method, made, fits, called, type_of, types_of, callee_of, settable, names_function, is_routine, are_given, is_drawing, board_kind, spelling, is_given}
 use Rattle.type_derive.specs.Derived.{Less}
-use Rattle.type_derive.specs.Growth.{LocalsGrow, KnownGrows, PlaceGrows, CalleeGrows}
+use Rattle.type_derive.specs.Laws.{LocalsGrow, KnownGrows, PlaceGrows}
+
+-- what is called takes the same, and gives no less
+abbrev pub CalleeGrows : Option Callee → Option Callee → Type 0
+CalleeGrows None d = Unit {0}
+CalleeGrows (Some c) None = ⊥
+CalleeGrows (Some c) (Some d) = (d.takes ≡ c.takes) × Less c.gives d.gives
 
 pub less_refl : (x : Option StaticType) → Less x x
 less_refl None = tt
@@ -148,7 +154,7 @@ module _ (tables : Tables) where
     same_takes : (d : ℕ) → takes_at l.entries d ≡ takes_at k.entries d
     same_takes d = ap (λ es. takes_at es d) g.entries
 
-    named_grows : (f : Found) → CalleeGrows (named_callee tables k f) (named_callee tables l f)
+    named_grows : (f : Found) → CalleeGrows (named_callee k f) (named_callee l f)
     named_grows (found.Function d) = (same_takes d, g.kinds d)
     named_grows (found.Local i) = tt
     named_grows found.Captured = tt
@@ -156,7 +162,7 @@ module _ (tables : Tables) where
     named_grows (found.Class c) = tt
     named_grows found.Unknown = tt
 
-    part_grows : (q : Part) → CalleeGrows (part_callee tables k q) (part_callee tables l q)
+    part_grows : (q : Part) → CalleeGrows (part_callee k q) (part_callee l q)
     part_grows (part.Method d) = (same_takes d, g.kinds d)
     part_grows (part.Push t) = (refl, refl)
     part_grows (part.Pop t) = (refl, refl)
@@ -164,7 +170,7 @@ module _ (tables : Tables) where
     part_grows part.Length = tt
     part_grows part.Missing = tt
 
-    made_grows : (f : Found) → CalleeGrows (made tables k f) (made tables l f)
+    made_grows : (f : Found) → CalleeGrows (made k f) (made l f)
     made_grows (found.Class c) = (ap (λ cs. maker_takes_of cs c) g.classes, refl)
     made_grows (found.Function d) = tt
     made_grows (found.Local i) = tt
@@ -184,10 +190,10 @@ module _ (tables : Tables) where
     unfolding part_of
     same_part u m = ap (λ es. part_of tables.names (bare es l.classes 0) u m) g.entries ∙ ap (λ cs. part_of tables.names (bare k.entries cs 0) u m) g.classes
 
-    same_super : (self : Self) (m : ℕ) → super_method tables l self m ≡ super_method tables k self m
-    same_super self m = ap (λ es. super_method tables (bare es l.classes 0) self m) g.entries ∙ ap (λ cs. super_method tables (bare k.entries cs 0) self m) g.classes
+    same_super : (self : Self) (m : ℕ) → super_method l self m ≡ super_method k self m
+    same_super self m = ap (λ es. super_method (bare es l.classes 0) self m) g.entries ∙ ap (λ cs. super_method (bare k.entries cs 0) self m) g.classes
 
-    called_less : (d e : Option Callee) (ts us : Option (List StaticType)) → CalleeGrows d e → LessAll ts us → Less (called tables k d ts) (called tables l e us)
+    called_less : (d e : Option Callee) (ts us : Option (List StaticType)) → CalleeGrows d e → LessAll ts us → Less (called k d ts) (called l e us)
     called_less None e ts us h i = tt
     called_less (Some c) None ts us h i = absurd h
     called_less (Some c) (Some d) ts us h i =
@@ -209,11 +215,11 @@ module _ (tables : Tables) where
     super_grows None = tt
     super_grows (Some d) = (same_takes d, g.kinds d)
 
-    member_callee : (m : ℕ) (a b : Option StaticType) → Less a b → CalleeGrows (a >>= λ u. part_callee tables k (part_of tables.names k u m)) (b >>= λ u. part_callee tables l (part_of tables.names l u m))
+    member_callee : (m : ℕ) (a b : Option StaticType) → Less a b → CalleeGrows (a >>= λ u. part_callee k (part_of tables.names k u m)) (b >>= λ u. part_callee l (part_of tables.names l u m))
     member_callee m None b i = tt
     member_callee m (Some u) b i =
-        let P : Option StaticType → Type 0 = λ z. CalleeGrows (part_callee tables k (part_of tables.names k u m)) (z >>= λ v. part_callee tables l (part_of tables.names l v m)) in
-        let Q : Part → Type 0 = λ z. CalleeGrows (part_callee tables k (part_of tables.names k u m)) (part_callee tables l z) in
+        let P : Option StaticType → Type 0 = λ z. CalleeGrows (part_callee k (part_of tables.names k u m)) (z >>= λ v. part_callee l (part_of tables.names l v m)) in
+        let Q : Part → Type 0 = λ z. CalleeGrows (part_callee k (part_of tables.names k u m)) (part_callee l z) in
         subst P (sym i) (subst Q (sym (same_part u m)) (part_grows (part_of tables.names k u m)))
 
     abbrev part_set : Known → ℕ → Option ℤ → Option StaticType → Bool
@@ -253,7 +259,7 @@ module _ (tables : Tables) where
       name_same_fixed found.Unknown = refl
 
       same_space : (a : Tree) → space tables l q a ≡ space tables k p a
-      same_space (Name at x) = ap (space_of tables k x) (same_found x)
+      same_space (Name at x) = ap (space_of tables x) (same_found x)
       same_space _ = refl
 
       same_constant : (a : Tree) (m : ℕ) → constant_of tables l q a m ≡ constant_of tables k p a m
@@ -261,7 +267,7 @@ module _ (tables : Tables) where
 
       same_board : (f : Tree) → board_callee tables l q f ≡ board_callee tables k p f
       same_board (Member at a m) = ap (λ s. s >>= λ n. call_named n (spelling tables m)) (same_space a)
-      same_board (Name at x) = ap (λ b. own_call tables k b (space tables l q (Name at x))) h.library ∙ ap (own_call tables k p.library) (same_space (Name at x))
+      same_board (Name at x) = ap (λ b. own_call b (space tables l q (Name at x))) h.library ∙ ap (own_call p.library) (same_space (Name at x))
       same_board _ = refl
 
       abbrev K : Tree → Option StaticType
@@ -315,19 +321,19 @@ module _ (tables : Tables) where
             some_less (board_callee tables k p f) (board_callee tables l q f)
             (λ call. if are_given tables k p (row_of call).takes args then Some (board_kind (row_of call).gives) else None)
             (λ call. if are_given tables l q (row_of call).takes args then Some (board_kind (row_of call).gives) else None)
-            (called tables k (callee_of tables k p f) (types_of tables k p args)) (called tables l (callee_of tables l q f) (types_of tables l q args)) (same_board f)
+            (called k (callee_of tables k p f) (types_of tables k p args)) (called l (callee_of tables l q f) (types_of tables l q args)) (same_board f)
             (λ call. if_less (are_given tables k p (row_of call).takes args) (are_given tables l q (row_of call).takes args)
             (Some (board_kind (row_of call).gives)) (Some (board_kind (row_of call).gives)) (given_grows (row_of call).takes args) refl)
             (called_less (callee_of tables k p f) (callee_of tables l q f) (types_of tables k p args) (types_of tables l q args) (callee_grows f) (all_grow args))
         grows r (SuperCall at None args) = tt
         grows r (SuperCall at (Some m) args) =
-            called_less (super_callee k (super_method tables k p.this m)) (super_callee l (super_method tables l q.this m)) (types_of tables k p args) (types_of tables l q args)
-            (let e = ap (λ z. super_method tables l z m) h.this ∙ same_super p.this m in
-            let P : Option ℕ → Type 0 = λ d. CalleeGrows (super_callee k (super_method tables k p.this m)) (super_callee l d) in
-            subst P (sym e) (super_grows (super_method tables k p.this m))) (all_grow args)
+            called_less (super_callee k (super_method k p.this m)) (super_callee l (super_method l q.this m)) (types_of tables k p args) (types_of tables l q args)
+            (let e = ap (λ z. super_method l z m) h.this ∙ same_super p.this m in
+            let P : Option ℕ → Type 0 = λ d. CalleeGrows (super_callee k (super_method k p.this m)) (super_callee l d) in
+            subst P (sym e) (super_grows (super_method k p.this m))) (all_grow args)
         grows r (Make at x args) =
-            called_less (made tables k (finds tables k p x)) (made tables l (finds tables l q x)) (types_of tables k p args) (types_of tables l q args)
-            (let P : Found → Type 0 = λ f. CalleeGrows (made tables k (finds tables k p x)) (made tables l f) in
+            called_less (made k (finds tables k p x)) (made l (finds tables l q x)) (types_of tables k p args) (types_of tables l q args)
+            (let P : Found → Type 0 = λ f. CalleeGrows (made k (finds tables k p x)) (made l f) in
             subst P (sym (same_found x)) (made_grows (finds tables k p x))) (all_grow args)
         grows r (Handler at body) = tt
 
@@ -339,7 +345,7 @@ module _ (tables : Tables) where
 
         callee_grows : (f : Tree) → CalleeGrows (callee_of tables k p f) (callee_of tables l q f)
         callee_grows (Name at x) =
-            let P : Found → Type 0 = λ f. CalleeGrows (named_callee tables k (finds tables k p x)) (named_callee tables l f) in
+            let P : Found → Type 0 = λ f. CalleeGrows (named_callee k (finds tables k p x)) (named_callee l f) in
             subst P (sym (same_found x)) (named_grows (finds tables k p x))
         callee_grows (Member at a m) = member_callee m (K a) (L a) (grows Free a)
         callee_grows _ = tt
@@ -351,7 +357,7 @@ module _ (tables : Tables) where
         settable_grows _ e = e
 
         function_grows : (e : Tree) → is_routine tables k p e ≡ true → is_routine tables l q e ≡ true
-        function_grows (Name at x) e = ap (names_function tables l) (same_found x) ∙ e
+        function_grows (Name at x) e = ap (names_function) (same_found x) ∙ e
         function_grows (Handler at body) e = e
         function_grows _ e = e
 

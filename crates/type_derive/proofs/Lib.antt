@@ -2,6 +2,7 @@ pub mod Named
 pub mod Single
 pub mod Calling
 pub mod Opened
+pub mod Going
 pub mod Evaluated
 pub mod Moves
 pub mod Grows

@@ -11,7 +11,7 @@ use Rattle.sts_scope.specs.declared.known.Known.{Known}
 use Rattle.sts_scope.specs.declared.known.Local.{Local}
 use Rattle.sts_scope.specs.Entries.{Naming}
 use Rattle.sts_scope.specs.Places.{NameScope, inner, with, local}
-use Rattle.type_derive.specs.Moves.{Extends, left}
+use Rattle.type_derive.specs.Scopes.{Extends, left}
 use Rattle.type_derive.specs.Returns.{is_alone, bound, all_declared, after, returned, all_returned}
 use Rattle.sts_scope.proofs.Laws.{drop_at}
 

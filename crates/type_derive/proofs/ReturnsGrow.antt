@@ -16,8 +16,15 @@ use Rattle.type_derive.specs.declared.roles.Role.TheVariants.{Free}
 use Rattle.type_derive.specs.Typing.{type_of}
 use Rattle.type_derive.specs.Returns.{is_alone, parameter_locals, within, bound, declared, all_declared, after, after_first, items_of, looped, returned, all_returned, answered}
 use Rattle.type_derive.specs.Derived.{Source, Stated, Initial, Returns, Less, Within, follows, rule, at}
-use Rattle.type_derive.specs.Growth.{LocalsGrow, KnownGrows, PlaceGrows, ReturnGrows}
+use Rattle.type_derive.specs.Laws.{LocalsGrow, KnownGrows, PlaceGrows}
 use Rattle.type_derive.proofs.Grows.{less_refl, grows, same_length}
+
+-- a value is returned in both or in neither
+abbrev pub ReturnGrows : Option (Option StaticType) → Option (Option StaticType) → Type 0
+ReturnGrows None None = Unit {0}
+ReturnGrows None (Some o) = ⊥
+ReturnGrows (Some o) None = ⊥
+ReturnGrows (Some o) (Some u) = Less o u
 
 append_grows : (ls ms : List Local) (a b : Local) → LocalsGrow ls ms → b.name ≡ a.name → b.fixed ≡ a.fixed → Less a.kind b.kind → LocalsGrow (ls ++ a ∷ []) (ms ++ b ∷ [])
 append_grows [] [] a b h n f k = (n, f, k, tt)
@@ -54,10 +61,10 @@ unless_less : (b : Bool) (x y : Option StaticType) → Less x y → Less (if b t
 unless_less true x y h = tt
 unless_less false x y h = h
 
-items_less : (tables : Tables) (names : Naming) (k l : Known) (o u : Option StaticType) → Less o u → Less (items_of tables names k o) (items_of tables names l u)
+items_less : (tables : Tables) (names : Naming) (k l : Known) (o u : Option StaticType) → Less o u → Less (items_of o) (items_of u)
 items_less tables names k l None u h = tt
 items_less tables names k l (Some t) u h =
-    let P : Option StaticType → Type 0 = λ z. Less (if is_array t then Some (item t) else None) (items_of tables names l z) in
+    let P : Option StaticType → Type 0 = λ z. Less (if is_array t then Some (item t) else None) (items_of z) in
     subst P (sym h) (less_refl (if is_array t then Some (item t) else None))
 
 pub answered_grows : (a b : Option (Option StaticType)) → ReturnGrows a b → Less (answered a) (answered b)
@@ -89,9 +96,9 @@ module _ (tables : Tables) (names : Naming) (k l : Known) (g : KnownGrows k l) w
   first_grows p q omitted h = h
   first_grows p q (written a) h = after_grows p q a h
 
-  looped_grows : (p q : NameScope) (fixed : Bool) (x : ℕ) (list : Tree) → PlaceGrows p q → PlaceGrows (looped tables names k p fixed x list) (looped tables names l q fixed x list)
+  looped_grows : (p q : NameScope) (fixed : Bool) (x : ℕ) (list : Tree) → PlaceGrows p q → PlaceGrows (looped tables k p fixed x list) (looped tables l q fixed x list)
   looped_grows p q fixed x list h =
-      with_grows (inner p) (inner q) x (items_of tables names k (type_of tables k p Free list)) (items_of tables names l (type_of tables l q Free list)) fixed (inner_grows p q h)
+      with_grows (inner p) (inner q) x (items_of (type_of tables k p Free list)) (items_of (type_of tables l q Free list)) fixed (inner_grows p q h)
       (items_less tables names k l (type_of tables k p Free list) (type_of tables l q Free list) (grows tables k l g p q h Free list))
 
   mutual
@@ -110,8 +117,8 @@ module _ (tables : Tables) (names : Naming) (k l : Known) (g : KnownGrows k l) w
         let y = after_first tables names l (inner q) first in
         returned_grows (inner x) (inner y) a (inner_grows x y (first_grows (inner p) (inner q) first (inner_grows p q h)))
     returned_grows p q (ForOf at fixed x list a) h =
-        let y = looped tables names k p fixed x list in
-        let z = looped tables names l q fixed x list in
+        let y = looped tables k p fixed x list in
+        let z = looped tables l q fixed x list in
         returned_grows (inner y) (inner z) a (inner_grows y z (looped_grows p q fixed x list h))
     returned_grows p q (Let at fixed each) h = tt
     returned_grows p q (Break at) h = tt

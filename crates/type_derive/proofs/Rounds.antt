@@ -5,8 +5,7 @@ use Rattle.sts_base.specs.declared.tables.Tables.{Tables}
 use Rattle.sts_syntax.specs.Programs.{Program}
 use Rattle.sts_scope.specs.declared.kinds.StaticType.{StaticType}
 use Rattle.sts_scope.specs.Scopes.{all_names}
-use Rattle.type_derive.specs.Derived.{at, Less, Within, Solves, IsLeast}
-use Rattle.type_derive.specs.Accepted.{known, all_sources, derivation, AreDerived}
+use Rattle.type_derive.specs.Derived.{at, Less, Within, Solves, IsLeast, known, all_sources, derivation, AreDerived}
 use Rattle.type_derive.proofs.ReturnsGrow.{rule_grows}
 
 by_cases : (A : Type 0) (x : Bool) → (x ≡ true → A) → (x ≡ false → A) → A

@@ -16,7 +16,6 @@ use Rattle.sts_syntax.specs.BoardTable.{BoardParameter, BoardAction, row_of}
 use Rattle.sts_syntax.specs.declared.board_calls.BoardCall.{BoardCall}
 use Rattle.sts_syntax.specs.Trees.{Parameter, Tree, Num, Text, Truth, Null, This, Name, Unary, Binary, Both, Either, Choice, Set, Bump, Member, Item, Call, SuperCall, Make, Items, Handler, Trees, none, more, OptionalTree, absent, present, Statement, Block, Let, IfOnly, IfElse, While, DoWhile, For, ForOf, Return, Break, Continue, Plain, Empty, Statements, done, also, OptionalStatement, omitted, written, Declaration, Declare, Declarations, ended, next, Routine, Does}
 use Rattle.sts_scope.specs.declared.kinds.StaticType.{StaticType}
-use Rattle.sts_scope.specs.declared.entries.Entry.{Entry}
 use Rattle.sts_scope.specs.declared.known.Known.{Known}
 use Rattle.sts_scope.specs.declared.known.Found.{Found}
 use Rattle.sts_scope.specs.declared.known.Found.TheVariants as found
@@ -30,7 +29,7 @@ use Rattle.type_derive.specs.declared.roles.Role.TheVariants.{Free}
 use Rattle.type_derive.specs.Typing.{◌>>=◌, finds, constant_of, board_callee, super_method, board_kind, type_of, drawn, draws, text_at}
 use Rattle.type_derive.specs.Returns.{bound, after, looped, items_of}
 use Rattle.type_derive.specs.Nodes.{kind_role, handler_place}
-use Rattle.type_derive.specs.Making.{Made, Making, nothing_made, pure, ◌>=>◌, looked, a_local}
+use Rattle.type_derive.specs.Making.{Making, nothing_made, pure, ◌>=>◌, looked, a_local}
 use Rattle.sts_scope.specs.Numbers.{Numbering, global_number, field_names, slot_names, place_among, routine_number}
 
 -- where something stands, and where the values of the function's locals in scope are
@@ -109,14 +108,26 @@ infixr 5 ◌followed_by◌
 abbrev pub ◌followed_by◌ : Making TypedTree → Making TypedTrees → Making TypedTrees
 a followed_by rest = a >=> λ x. rest >=> λ xs. pure (e.more x xs)
 
-module _ (tables : Tables) (names : Naming) (k : Known) where
-  -- a text that draws a frame, as the frame's number
-  abbrev pub drawing : Tree → Making TypedTree
-  drawing (Text at n) =
-      if draws (text_at tables n) then pure (e.Num t.Number (pos (frame_of (drawn (text_at tables n)))))
-      else nothing_made
-  drawing _ = nothing_made
+-- a text that draws a frame, as the frame's number
+abbrev pub drawing : Tables → Tree → Making TypedTree
+drawing tables (Text at n) =
+    if draws (text_at tables n) then pure (e.Num t.Number (pos (frame_of (drawn (text_at tables n)))))
+    else nothing_made
+drawing tables _ = nothing_made
 
+module _ (tables : Tables) (k : Known) where
+  abbrev pub type_in : Site → Tree → Option StaticType
+  type_in s a = type_of tables k s.place Free a
+
+  -- the type that an expression is noted to have; `[]` has that of its place
+  abbrev pub noted : Site → Option StaticType → Tree → Option ValueType
+  noted s given (Items at none) = option_map value_type given
+  noted s given a = option_map value_type (type_of tables k s.place (kind_role given) a)
+
+  abbrev pub as_noted : Site → Option StaticType → Tree → (ValueType → TypedTree) → Making TypedTree
+  as_noted s given a make = looked (noted s given a) (λ u. pure (make u))
+
+module _ (tables : Tables) (names : Naming) (k : Known) where
   abbrev pub in_handler_site : Site → List Parameter → Option Annotation → Statements → Site
   in_handler_site s params gives all =
       record { place = handler_place tables names k s.place params gives all; spots = [] }
@@ -129,17 +140,6 @@ module _ (tables : Tables) (names : Naming) (k : Known) where
   first_site m s (written a) = behind_statement m s a
 
 module _ (tables : Tables) (names : Naming) (k : Known) (numbers : Numbering) where
-  abbrev pub type_in : Site → Tree → Option StaticType
-  type_in s a = type_of tables k s.place Free a
-
-  -- the type that an expression is noted to have; `[]` has that of its place
-  abbrev pub noted : Site → Option StaticType → Tree → Option ValueType
-  noted s given (Items at none) = option_map value_type given
-  noted s given a = option_map value_type (type_of tables k s.place (kind_role given) a)
-
-  abbrev pub as_noted : Site → Option StaticType → Tree → (ValueType → TypedTree) → Making TypedTree
-  as_noted s given a make = looked (noted s given a) (λ u. pure (make u))
-
   abbrev mutual
     -- an expression, where its place gives it a type or none
     pub made_tree : Site → Option StaticType → Tree → Making TypedTree
@@ -147,46 +147,47 @@ module _ (tables : Tables) (names : Naming) (k : Known) (numbers : Numbering) wh
     made_tree s g (Text at n) = pure (e.Text t.Text n)
     made_tree s g (Truth at b) = pure (e.Truth t.Boolean b)
     made_tree s g (Null at) = pure (e.Null t.NullType)
-    made_tree s g (This at) = as_noted s g (This at) e.This
+    made_tree s g (This at) = as_noted tables k s g (This at) e.This
     made_tree s g (Name at x) =
-        looked (spot_of k s.spots (finds tables k s.place x)) (λ spot. as_noted s g (Name at x) (λ u. e.Name u spot))
+        looked (spot_of k s.spots (finds tables k s.place x))
+        (λ spot. as_noted tables k s g (Name at x) (λ u. e.Name u spot))
     made_tree s g (Unary at op a) =
-        made_tree s None a >=> λ x. as_noted s g (Unary at op a) (λ u. e.Unary u op x)
+        made_tree s None a >=> λ x. as_noted tables k s g (Unary at op a) (λ u. e.Unary u op x)
     made_tree s g (Binary at op a b) =
         made_tree s None a >=> λ x. made_tree s None b
-        >=> λ y. as_noted s g (Binary at op a b) (λ u. e.Binary u op x y)
+        >=> λ y. as_noted tables k s g (Binary at op a b) (λ u. e.Binary u op x y)
     made_tree s g (Both at a b) = made_tree s None a >=> λ x. made_tree s None b >=> λ y. pure (e.Both t.Boolean x y)
     made_tree s g (Either at a b) =
         made_tree s None a >=> λ x. made_tree s None b >=> λ y. pure (e.Either t.Boolean x y)
     made_tree s g (Choice at q a b) =
         made_tree s None q >=> λ z. made_tree s None a >=> λ x. made_tree s None b
-        >=> λ y. as_noted s g (Choice at q a b) (λ u. e.Choice u z x y)
+        >=> λ y. as_noted tables k s g (Choice at q a b) (λ u. e.Choice u z x y)
     made_tree s g (Set at op x r) =
-        looked (type_in s x)
+        looked (type_in tables k s x)
         (λ v. made_tree s None x >=> λ a. made_tree s (Some v) r
-        >=> λ b. as_noted s g (Set at op x r) (λ u. e.Set u op a b))
+        >=> λ b. as_noted tables k s g (Set at op x r) (λ u. e.Set u op a b))
     made_tree s g (Bump at x by late) = made_tree s None x >=> λ a. pure (e.Bump t.Number a by late)
     made_tree s g (Member at a m) = elim (constant_of tables k s.place a m) [
       | Some z ↦ pure (e.Num t.Number z)
-      | None ↦ looked (noted s g (Member at a m)) (λ u. looked (type_in s a) (λ v. made_tree s None a
+      | None ↦ looked (noted tables k s g (Member at a m)) (λ u. looked (type_in tables k s a) (λ v. made_tree s None a
           >=> λ x. looked (member_read k u v m (part_of tables.names k v m) x) pure))
     ]
     made_tree s g (Item at a i) =
-        made_tree s None a >=> λ x. made_tree s None i >=> λ y. as_noted s g (Item at a i) (λ u. e.Item u x y)
-    made_tree s g (Items at none) = as_noted s g (Items at none) (λ u. e.Items u e.none)
+        made_tree s None a >=> λ x. made_tree s None i >=> λ y. as_noted tables k s g (Item at a i) (λ u. e.Item u x y)
+    made_tree s g (Items at none) = as_noted tables k s g (Items at none) (λ u. e.Items u e.none)
     made_tree s g (Items at (more a rest)) =
-        looked (type_in s a)
+        looked (type_in tables k s a)
         (λ v. made_tree s None a >=> λ x. made_items s v rest
-        >=> λ xs. as_noted s g (Items at (more a rest)) (λ u. e.Items u (e.more x xs)))
+        >=> λ xs. as_noted tables k s g (Items at (more a rest)) (λ u. e.Items u (e.more x xs)))
     made_tree s g (Call at f args) = elim (board_callee tables k s.place f) [
       | Some call ↦ made_asked s (row_of call).takes args
-          >=> λ xs. as_noted s g (Call at f args) (λ u. e.Call u (board_target call (row_of call).action) xs)
-      | None ↦ looked (noted s g (Call at f args)) (λ u. made_call s u f (λ takes. made_given s takes args))
+          >=> λ xs. as_noted tables k s g (Call at f args) (λ u. e.Call u (board_target call (row_of call).action) xs)
+      | None ↦ looked (noted tables k s g (Call at f args)) (λ u. made_call s u f (λ takes. made_given s takes args))
     ]
     made_tree s g (SuperCall at (Some m) args) =
-        looked (super_method tables k s.place.this m)
+        looked (super_method k s.place.this m)
         (λ d. made_given s (takes_at k.entries d) args
-        >=> λ xs. as_noted s g (SuperCall at (Some m) args) (λ u. e.SuperCall u (routine_number numbers d) xs))
+        >=> λ xs. as_noted tables k s g (SuperCall at (Some m) args) (λ u. e.SuperCall u (routine_number numbers d) xs))
     made_tree s g (Make at x args) =
         looked (class_found (finds tables k s.place x))
         (λ class. made_given s (maker_takes_of k.classes class) args
@@ -198,7 +199,7 @@ module _ (tables : Tables) (names : Naming) (k : Known) (numbers : Numbering) wh
     made_call s u (Name at x) args =
         looked (function_found (finds tables k s.place x))
         (λ d. args (takes_at k.entries d) >=> λ xs. pure (e.Call u (c.Function (routine_number numbers d)) xs))
-    made_call s u (Member at a m) args = looked (type_in s a) (λ v.
+    made_call s u (Member at a m) args = looked (type_in tables k s a) (λ v.
         let called = part_of tables.names k v m in
         looked (part_target k v m called) (λ target. made_tree s None a
         >=> λ x. args (part_takes k called) >=> λ xs. pure (e.Call u target (e.more x xs))))
@@ -219,7 +220,7 @@ module _ (tables : Tables) (names : Naming) (k : Known) (numbers : Numbering) wh
     pub made_asked : Site → List BoardParameter → Trees → Making TypedTrees
     made_asked s [] none = pure e.none
     made_asked s (board.Of u ∷ ps) (more a rest) = made_tree s (Some (board_kind u)) a followed_by made_asked s ps rest
-    made_asked s (board.Drawing ∷ ps) (more a rest) = drawing tables names k a followed_by made_asked s ps rest
+    made_asked s (board.Drawing ∷ ps) (more a rest) = drawing tables a followed_by made_asked s ps rest
     made_asked s (board.Handler ∷ ps) (more a rest) = made_handler s a followed_by made_asked s ps rest
     made_asked s _ _ = nothing_made
 
@@ -270,10 +271,10 @@ module _ (tables : Tables) (names : Naming) (k : Known) (numbers : Numbering) wh
         let all = made_opening (in_block s) first >=> λ f. made_value inside None test
         >=> λ q. made_value inside None step >=> λ i. made_statement (in_block inside) a >=> λ x. pure (e.For f q i x) in
         all m n
-    made_statement s (ForOf at fixed x list a) = looked (items_of tables names k (type_in s list)) (λ v m n.
+    made_statement s (ForOf at fixed x list a) = looked (items_of (type_in tables k s list)) (λ v m n.
         let u = value_type v in
         let inside : Site = record {
-          place = inner (looped tables names k s.place fixed x list);
+          place = inner (looped tables k s.place fixed x list);
           spots = s.spots ++ Local m ∷ [];
         } in
         let all = made_tree s None list >=> λ l. a_local u (λ i. i) >=> λ i. a_local (t.ListOf u) (λ j. j)

@@ -9,6 +9,7 @@ use Rattle.sts_scope.specs.declared.known.This.{This}
 use Rattle.sts_scope.specs.declared.known.This.TheVariants as this
 use Rattle.sts_scope.specs.Entries.{Naming, kind_of, classes_in}
 use Rattle.sts_scope.specs.Places.{outside}
+use Rattle.sts_scope.specs.Scopes.{all_names, all_entries, all_classes, library_entries}
 use Rattle.type_derive.specs.Returns.{bound, parameter_locals, within, all_returned, answered}
 
 -- the type of each declaration, where it is known
@@ -92,3 +93,25 @@ pub record IsLeast (rule : TypeTable → ℕ → Option StaticType)
   pub solves : Solves rule kinds
   pub least : (others : TypeTable) → length others ≡ length kinds → Solves rule others
       → Within kinds others
+
+-- what is known of a library and a text, with this table of types
+abbrev pub known : Program → Program → TypeTable → Known
+known library text kinds = record {
+  entries = all_entries library text;
+  classes = all_classes library text;
+  kinds = kinds;
+  library = library_entries library text;
+}
+
+abbrev pub all_sources : Program → Program → List Source
+all_sources library text = sources_from (all_names library text) 0 (library ++ text)
+
+-- how the type of each declaration follows from those of the others
+abbrev pub derivation : Tables → Program → Program → TypeTable → ℕ → Option StaticType
+derivation tables library text kinds d =
+    rule tables (all_names library text) (known library text kinds) (all_sources library text) kinds d
+
+-- the types of all declarations: the least table that follows its own rules
+pub record AreDerived (tables : Tables) (library text : Program) (kinds : TypeTable) : Type 0 where
+  pub each : length kinds ≡ length (all_entries library text)
+  pub least : IsLeast (derivation tables library text) kinds

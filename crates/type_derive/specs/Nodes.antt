@@ -51,6 +51,16 @@ abbrev pub why_named : Known → Role → Found → Code
 why_named k Served (found.Function d) = elim (kind_at k d) [ None ↦ NeedsType | Some t ↦ BadHandler ]
 why_named k r f = why_name f
 
+-- in a handler its own parameters are known
+abbrev pub handler_within : Naming → NameScope → List Parameter → Option StaticType → NameScope
+handler_within names p params gives =
+    let q = in_handler p gives in inner (record q { locals = q.locals ++ parameter_locals names params })
+
+-- a name that is declared in a block
+abbrev pub own_local : Tables → NameScope → ℕ → ℕ → Option Failure
+own_local tables p x at =
+    unless (not (is_dollar tables.names x)) UnknownName at then unless (not (is_twice p x)) TwiceNamed at
+
 module _ (tables : Tables) (k : Known) where
   -- no function stands where a handler is wanted
   abbrev pub lacks_handler : NameScope → List BoardParameter → Trees → Bool
@@ -67,7 +77,7 @@ module _ (tables : Tables) (k : Known) where
   ]
   cause_of p r (This at) = why_this p.this
   cause_of p r (Make at x args) = why_make (finds tables k p x)
-  cause_of p r (SuperCall at (Some m) args) = elim (super_method tables k p.this m) [
+  cause_of p r (SuperCall at (Some m) args) = elim (super_method k p.this m) [
     | None ↦ why_super k p.this m
     | Some d ↦ why_call (kind_at k d)
   ]
@@ -87,19 +97,23 @@ module _ (tables : Tables) (k : Known) where
   is_of_board p (Member at a m) = is_some (constant_of tables k p a m) || is_some (board_callee tables k p (Member at a m))
   is_of_board p e = false
 
-module _ (tables : Tables) (names : Naming) (k : Known) where
-  -- in a handler: its own parameters are known, and its result is the one that is written, else that of its first value, as any function's
-  abbrev pub handler_within : NameScope → List Parameter → Option StaticType → NameScope
-  handler_within p params gives =
-      let q = in_handler p gives in inner (record q { locals = q.locals ++ parameter_locals names params })
+  -- a test isn't boolean
+  abbrev pub own_test : NameScope → Tree → ℕ → Option Failure
+  own_test p test at = unless (is_boolean (type_of tables k p Free test)) Mismatch at
 
+  abbrev pub test_failure : NameScope → OptionalTree → ℕ → Option Failure
+  test_failure p absent at = None
+  test_failure p (present e) at = own_test p e at
+
+module _ (tables : Tables) (names : Naming) (k : Known) where
+  -- its result is the one that is written, else that of its first value, as any function's
   abbrev pub handler_result : NameScope → List Parameter → Option Annotation → Statements → Option StaticType
   handler_result p params (Some a) all = kind_of names a
   handler_result p params None all =
-      answered (all_returned tables names k (handler_within p params None) all)
+      answered (all_returned tables names k (handler_within names p params None) all)
 
   abbrev pub handler_place : NameScope → List Parameter → Option Annotation → Statements → NameScope
-  handler_place p params gives all = handler_within p params (handler_result p params gives all)
+  handler_place p params gives all = handler_within names p params (handler_result p params gives all)
 
   -- a function expression that may be a handler takes nothing, and its result is nothing
   abbrev pub serves_itself : NameScope → Routine → Bool
@@ -116,20 +130,11 @@ module _ (tables : Tables) (names : Naming) (k : Known) where
   abbrev pub unsuited : NameScope → Role → Tree → ℕ → Option Failure
   unsuited p r e at = if suits p r e then None else untyped tables k p r e at
 
-  -- a name that is declared in a block
-  abbrev pub own_local : NameScope → ℕ → ℕ → Option Failure
-  own_local p x at =
-      unless (not (is_dollar tables.names x)) UnknownName at then unless (not (is_twice p x)) TwiceNamed at
-
   -- the type of a declared name
   abbrev pub own_bound : NameScope → Option Annotation → OptionalTree → ℕ → Option Failure
   own_bound p None first at = own (bound tables names k p None first) NeedsType at
   own_bound p (Some a) absent at = None
   own_bound p (Some a) (present e) at = unless (fits k (type_of tables k p Given e) (kind_of names a)) Mismatch at
-
-  -- a test isn't boolean
-  abbrev pub own_test : NameScope → Tree → ℕ → Option Failure
-  own_test p test at = unless (is_boolean (type_of tables k p Free test)) Mismatch at
 
   abbrev mutual
     pub failure : NameScope → Role → Tree → Option Failure
@@ -177,14 +182,10 @@ module _ (tables : Tables) (names : Naming) (k : Known) where
     optional_failure p absent = None
     optional_failure p (present e) = failure p Free e
 
-    pub test_failure : NameScope → OptionalTree → ℕ → Option Failure
-    test_failure p absent at = None
-    test_failure p (present e) at = own_test p e at
-
     -- of a declared name in a block
     pub declaration_failure : NameScope → Declaration → Option Failure
     declaration_failure p (Declare at x shape first) =
-        written_failure names at shape then initial_failure p shape first then own_local p x at
+        written_failure names at shape then initial_failure p shape first then own_local tables p x at
         then own_bound p shape first at
 
     pub declarations_failure : NameScope → Bool → Declarations → Option Failure
@@ -198,20 +199,20 @@ module _ (tables : Tables) (names : Naming) (k : Known) where
     statement_failure p (Block at all) = statements_failure (inner p) all
     statement_failure p (Let at fixed each) = declarations_failure p fixed each
     statement_failure p (IfOnly at test a) =
-        failure p Free test then statement_failure (inner p) a then own_test p test at
+        failure p Free test then statement_failure (inner p) a then own_test tables k p test at
     statement_failure p (IfElse at test a b) =
         failure p Free test then statement_failure (inner p) a then statement_failure (inner p) b
-        then own_test p test at
+        then own_test tables k p test at
     statement_failure p (While at test a) =
-        failure p Free test then statement_failure (inner p) a then own_test p test at
+        failure p Free test then statement_failure (inner p) a then own_test tables k p test at
     statement_failure p (DoWhile at a test) =
-        statement_failure (inner p) a then failure p Free test then own_test p test at
+        statement_failure (inner p) a then failure p Free test then own_test tables k p test at
     statement_failure p (For at first test step a) =
         let q = after_first tables names k (inner p) first in
         first_failure (inner p) first then optional_failure q test then optional_failure q step
-        then statement_failure (inner q) a then test_failure q test at
+        then statement_failure (inner q) a then test_failure tables k q test at
     statement_failure p (ForOf at fixed x list a) =
-        failure p Free list then statement_failure (inner (looped tables names k p fixed x list)) a
+        failure p Free list then statement_failure (inner (looped tables k p fixed x list)) a
         then unless (not (is_dollar tables.names x)) UnknownName at
         then unless (is_list (type_of tables k p Free list)) Mismatch at
     statement_failure p (Return at absent) = unless (is_nothing p.gives) Mismatch at

@@ -1,5 +1,5 @@
 -- The failures behind the headings: overriding methods, then nodes.
-use Rattle.std.specs.Prelude.{ℕ, suc, ◌+◌, Bool, true, false, ◌&&◌, Option, Some, None, List, [], ◌∷◌, length, if◌then◌else◌}
+use Rattle.std.specs.Prelude.{ℕ, suc, ◌+◌, Bool, true, false, ◌&&◌, Option, Some, None, List, [], ◌∷◌, length}
 use Rattle.sts_base.specs.declared.tables.Tables.{Tables}
 use Rattle.sts_base.specs.declared.refused.Code.TheVariants.{Mismatch}
 use Rattle.sts_syntax.specs.Trees.{SuperCall, Statement, Let, Plain, Statements, also, Declaration, Declare, Declarations, ended, next, Routine, Does}
@@ -53,6 +53,11 @@ module _ (k : Known) where
   all_overrides names c d (i ∷ rest) =
       item_overrides c d i then all_overrides names (c + classes_in i) (d + length (item_entries names c i)) rest
 
+-- `super(..)` calls the base's constructor
+abbrev pub own_super_call : Known → Option (List StaticType) → List StaticType → ℕ → Option Failure
+own_super_call k None takes at = failure_at Mismatch at
+own_super_call k (Some ts) takes at = unless (all_go k.classes ts takes) Mismatch at
+
 -- The nodes of a text.
 module _ (tables : Tables) (names : Naming) (k : Known) where
   -- a field or a global is declared outside all functions
@@ -74,15 +79,10 @@ module _ (tables : Tables) (names : Naming) (k : Known) where
   body_failure self result (Does at params gives all arrow) =
       statements_failure tables names k (within (parameter_locals names params) self result false) all
 
-  -- `super(..)` calls the base's constructor
-  abbrev pub own_super_call : Option (List StaticType) → List StaticType → ℕ → Option Failure
-  own_super_call None takes at = failure_at Mismatch at
-  own_super_call (Some ts) takes at = unless (all_go k.classes ts takes) Mismatch at
-
   -- The first statement of a constructor of a class with the base b is `super(..)`; where it isn't, the constructor itself fails behind its statements.
   abbrev pub made_failure : NameScope → ℕ → ℕ → Statements → Option Failure
   made_failure p at b (also (Plain j (SuperCall i None args)) rest) =
-      failures tables names k p [] args then own_super_call (types_of tables k p args) (maker_takes_of k.classes b) i
+      failures tables names k p [] args then own_super_call k (types_of tables k p args) (maker_takes_of k.classes b) i
       then statements_failure tables names k p rest
   made_failure p at b all = statements_failure tables names k p all then failure_at Mismatch at
 

@@ -3,7 +3,7 @@ use Rattle.std.specs.Prelude.{ℕ, Bool, true, false, Option, Some, None, List, 
 use Rattle.std.specs.Option.{option_or}
 use Rattle.sts_base.specs.declared.tables.Tables.{Tables}
 use Rattle.sts_syntax.specs.Annotations.{Annotation}
-use Rattle.sts_syntax.specs.Trees.{Parameter, Tree, Null, Items, none, OptionalTree, absent, present, Statement, Block, Let, IfOnly, IfElse, While, DoWhile, For, ForOf, Return, Break, Continue, Plain, Empty, Statements, done, also, OptionalStatement, omitted, written, Declaration, Declare, Declarations, ended, next}
+use Rattle.sts_syntax.specs.Trees.{Parameter, Tree, Null, Items, none, OptionalTree, absent, present, Statement, Block, Let, IfOnly, IfElse, While, DoWhile, For, ForOf, Return, Statements, done, also, OptionalStatement, omitted, written, Declaration, Declare, Declarations, ended, next}
 use Rattle.sts_scope.specs.declared.kinds.StaticType.{StaticType}
 use Rattle.sts_scope.specs.declared.known.Known.{Known}
 use Rattle.sts_scope.specs.declared.known.Local.{Local}
@@ -35,6 +35,15 @@ abbrev pub within : List Local → This → Option StaticType → Bool → NameS
 within params this gives library =
     record { around = []; locals = params; block = length params; this = this; gives = gives; library = library }
 
+-- the type of the items that a loop goes through
+abbrev pub items_of : Option StaticType → Option StaticType
+items_of None = None
+items_of (Some t) = if is_array t then Some (item t) else None
+
+-- in the body of a `for of`
+abbrev pub looped : Tables → Known → NameScope → Bool → ℕ → Tree → NameScope
+looped tables k p fixed x list = with (inner p) x (items_of (type_of tables k p Free list)) fixed
+
 -- Types are written by the names of classes.
 module _ (tables : Tables) (names : Naming) (k : Known) where
   -- the type of a declared name: the one that is written, else its initialiser's
@@ -60,15 +69,6 @@ module _ (tables : Tables) (names : Naming) (k : Known) where
   after_first p omitted = p
   after_first p (written a) = after p a
 
-  -- the type of the items that a loop goes through
-  abbrev pub items_of : Option StaticType → Option StaticType
-  items_of None = None
-  items_of (Some t) = if is_array t then Some (item t) else None
-
-  -- in the body of a `for of`
-  abbrev pub looped : NameScope → Bool → ℕ → Tree → NameScope
-  looped p fixed x list = with (inner p) x (items_of (type_of tables k p Free list)) fixed
-
   -- The first value that is returned: none, or its type if it has one.
   abbrev mutual
     pub returned : NameScope → Statement → Option (Option StaticType)
@@ -79,7 +79,7 @@ module _ (tables : Tables) (names : Naming) (k : Known) where
     returned p (While at test a) = returned (inner p) a
     returned p (DoWhile at a test) = returned (inner p) a
     returned p (For at first test step a) = returned (inner (after_first (inner p) first)) a
-    returned p (ForOf at fixed x list a) = returned (inner (looped p fixed x list)) a
+    returned p (ForOf at fixed x list a) = returned (inner (looped tables k p fixed x list)) a
     returned p _ = None
 
     pub all_returned : NameScope → Statements → Option (Option StaticType)

@@ -11,7 +11,7 @@ use Rattle.sts_scope.specs.declared.entries.ClassHead.{ClassHead}
 use Rattle.sts_scope.specs.declared.known.Known.{Known}
 use Rattle.sts_scope.specs.Kinds.{nothing, object}
 use Rattle.sts_scope.specs.Places.{NameScope}
-use Rattle.sts_scope.specs.Rules.{takes_at, kind_at, maker_takes_of, goes, all_go, all_go_to}
+use Rattle.sts_scope.specs.Rules.{takes_at, kind_at, maker_takes_of, goes}
 use Rattle.type_derive.specs.declared.roles.Role.TheVariants.{Given}
 use Rattle.type_derive.specs.declared.callees.Called.{Called}
 use Rattle.type_derive.specs.declared.callees.Called.TheVariants as c
@@ -48,16 +48,6 @@ goes_some classes (Some s) t = goes classes s t
 abbrev pub goes_first : List ClassHead → Option StaticType → List StaticType → Bool
 goes_first classes s [] = false
 goes_first classes s (t ∷ ts) = goes_some classes s t
-
--- the values of some expressions have types and go where types are given, each to each
-abbrev pub typed_go : List ClassHead → Option (List StaticType) → List StaticType → Bool
-typed_go classes None ts = false
-typed_go classes (Some ss) ts = all_go classes ss ts
-
--- they all go to one
-abbrev pub typed_go_to : List ClassHead → StaticType → Option (List StaticType) → Bool
-typed_go_to classes t None = false
-typed_go_to classes t (Some ss) = all_go_to classes t ss
 
 -- an argument of a call of the board fits
 abbrev pub fits_board : Tables → Known → NameScope → BoardParameter → Tree → Bool

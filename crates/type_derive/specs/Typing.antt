@@ -22,7 +22,7 @@ use Rattle.sts_scope.specs.Lookup.{inherited, sort_of}
 use Rattle.sts_scope.specs.Places.{NameScope, name_found}
 use Rattle.sts_scope.specs.Rules.{this_kind, name_kind, name_fixed, operate, prefix, joined, choose, assign, counted, element, items_type, part_of, part_kind, part_settable, takes_at, kind_at, maker_takes_of, call_kind, goes}
 use Rattle.type_derive.specs.declared.roles.Role.{Role}
-use Rattle.type_derive.specs.declared.roles.Role.TheVariants.{Free, Given, Called, Served}
+use Rattle.type_derive.specs.declared.roles.Role.TheVariants.{Free, Given, Served}
 
 infixl 10 ◌>>=◌
 abbrev pub ◌>>=◌ : {A B : Type 0} → Option A → (A → Option B) → Option B
@@ -87,33 +87,21 @@ abbrev pub is_drawing : Tables → Tree → Bool
 is_drawing tables (Text at n) = draws (text_at tables n)
 is_drawing tables _ = false
 
-module _ (tables : Tables) (k : Known) where
-  -- what a name stands for
-  abbrev pub finds : NameScope → ℕ → Found
-  finds p x = name_found tables.names k p x
+-- a name that stands for nothing may name a part of the board's interface
+abbrev pub space_of : Tables → ℕ → Found → Option (List ℕ)
+space_of tables x found.Unknown = Some (spelling tables x)
+space_of tables x _ = None
 
-  -- a name that stands for nothing may name a part of the board's interface
-  abbrev pub space_of : ℕ → Found → Option (List ℕ)
-  space_of x found.Unknown = Some (spelling tables x)
-  space_of x _ = None
+abbrev pub own_call : Bool → Option (List ℕ) → Option BoardCall
+own_call false s = None
+own_call true s = s >>= λ name. call_named [] name
 
-  abbrev pub space : NameScope → Tree → Option (List ℕ)
-  space p (Name at x) = space_of x (finds p x)
-  space p _ = None
+-- A function stands where a handler is wanted. Whether it may be one is said where it stands.
+abbrev pub names_function : Found → Bool
+names_function (found.Function d) = true
+names_function _ = false
 
-  abbrev pub constant_of : NameScope → Tree → ℕ → Option ℤ
-  constant_of p a m = space p a >>= λ s. constant_named s (spelling tables m)
-
-  abbrev pub own_call : Bool → Option (List ℕ) → Option BoardCall
-  own_call false s = None
-  own_call true s = s >>= λ name. call_named [] name
-
-  -- a call of the board; the library has some whose space is empty
-  abbrev pub board_callee : NameScope → Tree → Option BoardCall
-  board_callee p (Member at a m) = space p a >>= λ s. call_named s (spelling tables m)
-  board_callee p (Name at x) = own_call p.library (space p (Name at x))
-  board_callee p _ = None
-
+module _ (k : Known) where
   abbrev pub named_callee : Found → Option Callee
   named_callee (found.Function d) = Some (callee (takes_at k.entries d) (kind_at k d))
   named_callee _ = None
@@ -137,18 +125,31 @@ module _ (tables : Tables) (k : Known) where
   made (found.Class c) = Some (callee (maker_takes_of k.classes c) (Some (object c)))
   made _ = None
 
-  -- A function stands where a handler is wanted. Whether it may be one is said where it stands.
-  abbrev pub names_function : Found → Bool
-  names_function (found.Function d) = true
-  names_function _ = false
+  abbrev pub called : Option Callee → Option (List StaticType) → Option StaticType
+  called d ts = d >>= λ c. ts >>= λ us. call_kind k.classes c.takes c.gives us
+
+module _ (tables : Tables) (k : Known) where
+  -- what a name stands for
+  abbrev pub finds : NameScope → ℕ → Found
+  finds p x = name_found tables.names k p x
+
+  abbrev pub space : NameScope → Tree → Option (List ℕ)
+  space p (Name at x) = space_of tables x (finds p x)
+  space p _ = None
+
+  abbrev pub constant_of : NameScope → Tree → ℕ → Option ℤ
+  constant_of p a m = space p a >>= λ s. constant_named s (spelling tables m)
+
+  -- a call of the board; the library has some whose space is empty
+  abbrev pub board_callee : NameScope → Tree → Option BoardCall
+  board_callee p (Member at a m) = space p a >>= λ s. call_named s (spelling tables m)
+  board_callee p (Name at x) = own_call p.library (space p (Name at x))
+  board_callee p _ = None
 
   abbrev pub is_routine : NameScope → Tree → Bool
   is_routine p (Name at x) = names_function (finds p x)
   is_routine p (Handler at body) = true
   is_routine p _ = false
-
-  abbrev pub called : Option Callee → Option (List StaticType) → Option StaticType
-  called d ts = d >>= λ c. ts >>= λ us. call_kind k.classes c.takes c.gives us
 
   -- the type of an expression, and what its place does with it
   abbrev mutual
@@ -177,12 +178,12 @@ module _ (tables : Tables) (k : Known) where
     type_of p r (Items at (more e rest)) = type_of p Free e >>= λ u. types_of p rest >>= λ us. items_type k.classes u us
     type_of p r (Call at f args) = elim (board_callee p f) [
       | Some call ↦ if are_given p (row_of call).takes args then Some (board_kind (row_of call).gives) else None
-      | None ↦ called (callee_of p f) (types_of p args)
+      | None ↦ called k (callee_of p f) (types_of p args)
     ]
     type_of p r (SuperCall at None args) = None
     type_of p r (SuperCall at (Some m) args) =
-        called (super_method p.this m >>= λ d. Some (callee (takes_at k.entries d) (kind_at k d))) (types_of p args)
-    type_of p r (Make at x args) = called (made (finds p x)) (types_of p args)
+        called k (super_method k p.this m >>= λ d. Some (callee (takes_at k.entries d) (kind_at k d))) (types_of p args)
+    type_of p r (Make at x args) = called k (made k (finds p x)) (types_of p args)
     type_of p r (Handler at body) = None
 
     -- those of expressions to which types are given
@@ -192,8 +193,8 @@ module _ (tables : Tables) (k : Known) where
 
     -- what is called
     pub callee_of : NameScope → Tree → Option Callee
-    callee_of p (Name at x) = named_callee (finds p x)
-    callee_of p (Member at a m) = type_of p Free a >>= λ u. part_callee (part_of tables.names k u m)
+    callee_of p (Name at x) = named_callee k (finds p x)
+    callee_of p (Member at a m) = type_of p Free a >>= λ u. part_callee k (part_of tables.names k u m)
     callee_of p _ = None
 
     -- A target that may be set: no `const`, no length, no constant of the board.

@@ -5,8 +5,7 @@ ghost use Rattle.sts_scope.specs.Places as name;
 ghost use Rattle.sts_scope.specs.Values.{value_at};
 ghost use Rattle.type_derive.specs.Nodes as node;
 ghost use Rattle.type_derive.specs.Returns.{parameter_locals, within};
-ghost use Rattle.type_derive.specs.Scopes.{place};
-ghost use Rattle.type_derive.specs.Naming.{naming};
+ghost use Rattle.type_derive.specs.Scopes.{place, naming};
 
 use crate::context::Context;
 use crate::locals::Locals;
@@ -52,8 +51,7 @@ pub fn handler_scope<'a>(
     params: &[Param],
     gives: Option<StaticType>,
 ) -> Result<Scope<'a>, NoMemory>
-    ensures { IfOk result (λ s. place s ≡ node.handler_within context.now.tables.now
-        (naming context.now) context.now.known.now (place scope.now) (parameters params.now) gives) }
+    ensures { IfOk result (λ s. place s ≡ node.handler_within (naming context.now) (place scope.now) (parameters params.now) gives) }
 {
     let mut locals = scope.locals.inside(context.alloc)?;
     add_parameters(context.classes, &mut locals, params)?;

@@ -100,7 +100,7 @@ pub fn goes_at(known: &Environment, s: Option<StaticType>, ts: &[StaticType], i:
 
 /// Whether a name is a function's.
 fn names_function(found: Found) -> bool
-    ensures { (tables : _) → (known : _) → result ≡ typing.names_function tables known found }
+    ensures { result ≡ typing.names_function found }
 {
     match found {
         Found::Function(_) => true,

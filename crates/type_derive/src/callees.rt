@@ -63,7 +63,7 @@ pub fn gives_of(known: &Environment, called: Called) -> Option<StaticType>
 
 /// What a name stands for that is called.
 pub fn named_callee(found: Found) -> Option<Called>
-    ensures { (tables : _) → (known : Knowledge) → all_shown known result ≡ typing.named_callee tables known found }
+    ensures { (known : Knowledge) → all_shown known result ≡ typing.named_callee known found }
 {
     match found {
         Found::Function(d) => Some(Called::Routine(d)),
@@ -77,7 +77,7 @@ pub fn named_callee(found: Found) -> Option<Called>
 
 /// What stands behind a dot and is called.
 pub fn part_callee(part: Part) -> Option<Called>
-    ensures { (tables : _) → (known : Knowledge) → all_shown known result ≡ typing.part_callee tables known part }
+    ensures { (known : Knowledge) → all_shown known result ≡ typing.part_callee known part }
 {
     match part {
         Part::Method(d) => Some(Called::Routine(d)),
@@ -91,7 +91,7 @@ pub fn part_callee(part: Part) -> Option<Called>
 
 /// The class that `new` makes an object of.
 pub fn made(found: Found) -> Option<Called>
-    ensures { (tables : _) → (known : Knowledge) → all_shown known result ≡ typing.made tables known found }
+    ensures { (known : Knowledge) → all_shown known result ≡ typing.made known found }
 {
     match found {
         Found::Class(c) => Some(Called::Maker(c)),
@@ -115,7 +115,7 @@ pub fn routine(d: Option<usize>) -> Option<Called>
 }
 
 fn method_of(known: &Environment, d: usize) -> Option<usize>
-    ensures { (tables : _) → result ≡ typing.method_of tables known.now (Some d) }
+    ensures { result ≡ typing.method_of known.now (Some d) }
 {
     match sort_of(known.entries().as_slice(), d) {
         Some(DeclarationKind::Method) => Some(d),
@@ -129,7 +129,7 @@ fn method_of(known: &Environment, d: usize) -> Option<usize>
 
 /// The method of a base that `super.m` is.
 pub fn super_method(known: &Environment, this: This, m: u32) -> Option<usize>
-    ensures { (tables : _) → result ≡ typing.super_method tables known.now this m }
+    ensures { result ≡ typing.super_method known.now this m }
 {
     match this {
         This::Object(c) => {
@@ -188,7 +188,7 @@ pub fn constant(
 }
 
 fn own_call(tables: &Tables, library: bool, name: Option<u32>) -> Option<BoardCall>
-    ensures { (known : Knowledge) → result ≡ typing.own_call tables.now known library
+    ensures { result ≡ typing.own_call library
         (option_map (typing.spelling tables.now) name) }
 {
     if !library {

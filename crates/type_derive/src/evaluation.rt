@@ -73,8 +73,8 @@ fn part_target(known: &Environment, part: Option<Part>) -> Option<StaticType>
 
 /// What a member is that is called.
 fn part_called(part: Option<Part>) -> Option<Called>
-    ensures { (tables : _) → (known : _) → all_shown known result
-        ≡ bind part (λ part. typing.part_callee tables known part) }
+    ensures { (known : _) → all_shown known result
+        ≡ bind part (λ part. typing.part_callee known part) }
 {
     match part {
         None => None,
@@ -371,7 +371,7 @@ fn called_type(
     called: Option<Called>,
     args: &[Expr],
 ) -> Result<Option<StaticType>, NoMemory>
-    ensures { IfOk result (λ u. u ≡ typing.called context.now.tables.now context.now.known.now
+    ensures { IfOk result (λ u. u ≡ typing.called context.now.known.now
         (all_shown context.now.known.now called)
         (typing.types_of context.now.tables.now context.now.known.now (place scope.now) (trees args.now))) }
 {

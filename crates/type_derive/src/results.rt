@@ -3,8 +3,7 @@ ghost use Rattle.std.specs.Prelude.{◌≡◌, None, IfOk, IfErr};
 ghost use Rattle.sts_syntax.specs.Views.{parameters, optional_annotation, statements};
 ghost use Rattle.type_derive.specs.Nodes as node;
 ghost use Rattle.type_derive.specs.Returns as derive;
-ghost use Rattle.type_derive.specs.Scopes.{place};
-ghost use Rattle.type_derive.specs.Naming.{naming};
+ghost use Rattle.type_derive.specs.Scopes.{place, naming};
 
 use crate::beginnings::handler_scope;
 use crate::context::Context;
@@ -24,7 +23,7 @@ fn first_returned(
 ) -> Result<Option<Option<StaticType>>, NoMemory>
     ensures { IfOk result (λ r. r ≡ derive.all_returned context.now.tables.now
         (naming context.now) context.now.known.now
-        (node.handler_within context.now.tables.now (naming context.now) context.now.known.now (place scope.now)
+        (node.handler_within (naming context.now) (place scope.now)
         (parameters params.now) None) (statements all.now)) }
 {
     let mut inside = handler_scope(context, &*scope, params, None)?;

@@ -4,9 +4,7 @@ ghost use Rattle.sts_syntax.specs.Views.{tree, declarations, statement, statemen
 ghost use Rattle.sts_syntax.specs.Trees as t;
 ghost use Rattle.sts_scope.specs.Places as name;
 ghost use Rattle.type_derive.specs.Groups as group;
-ghost use Rattle.type_derive.specs.Scopes.{place};
-ghost use Rattle.type_derive.specs.Moves.{left};
-ghost use Rattle.type_derive.specs.Naming.{naming};
+ghost use Rattle.type_derive.specs.Scopes.{place, left, naming};
 ghost use Rattle.type_derive.specs.Returns as given;
 
 use crate::context::Context;
@@ -157,7 +155,7 @@ pub fn leave(scope: &mut Scope, mark: Mark)
 
 /// The type of the items that a loop goes through.
 pub fn items_of(t: Option<StaticType>) -> Option<StaticType>
-    ensures { (tables : _) → (names : _) → (known : _) → result ≡ given.items_of tables names known t }
+    ensures { result ≡ given.items_of t }
 {
     match t {
         None => None,

@@ -1,6 +1,5 @@
 //! Laws of derived types.
-ghost use Rattle.type_derive.specs.Accepted.{DerivedTypesExist};
-ghost use Rattle.type_derive.specs.Laws.{GrowsWithTypes, IsOne, RulesGrow};
+ghost use Rattle.type_derive.specs.Laws.{DerivedTypesExist, GrowsWithTypes, IsOne, RulesGrow};
 
 /// Two least tables of types for the same declarations are one.
 pub fn derived_types_are_one()

@@ -11,14 +11,14 @@ use Rattle.sts_syntax.specs.TypedTrees.{TypedRoutine, ClassEntry, TypedProgram}
 use Rattle.sts_syntax.specs.Weights.{weight}
 use Rattle.sts_syntax.specs.WellTypedPrograms.{IsWellTyped, IsWithinLimits, IsClassWithinLimits, IsProgramWithinLimits}
 use Rattle.sts_scope.specs.declared.kinds.StaticType.{StaticType}
-use Rattle.type_derive.specs.Accepted.{AreDerived, IsAccepted, typed, text_failure}
-use Rattle.type_derive.specs.inner.FilledTexts.{filled_program}
+use Rattle.type_derive.specs.Derived.{AreDerived}
+use Rattle.typed_laws.specs.Accepted.{IsAccepted, typed, text_failure, limits_failure}
+use Rattle.typed_laws.specs.inner.FilledTexts.{filled_program}
 use Rattle.sts_scope.specs.Failures.{Failure}
-use Rattle.type_derive.specs.Limits.{limits_failure}
 use Rattle.type_derive.specs.Typing.{◌>>=◌}
-use Rattle.type_derive.specs.Formed.{IsFormedProgram}
+use Rattle.typed_laws.specs.Formed.{IsFormedProgram}
 use Rattle.typed_limits.specs.Limits.{routine_fits, class_fits, program_fits}
-use Rattle.type_derive.specs.Libraries.{IsLibrary}
+use Rattle.typed_laws.specs.Libraries.{IsLibrary}
 use Rattle.typed_laws.proofs.OneNode.{both_true}
 use Rattle.typed_laws.proofs.Typed.{unless_true, first, last}
 use Rattle.typed_laws.proofs.Rounds.{kinds_proper}

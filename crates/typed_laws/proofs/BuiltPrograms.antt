@@ -33,16 +33,18 @@ use Rattle.sts_scope.specs.Rules.{kind_at, maker_takes_of, all_go}
 use Rattle.sts_scope.specs.Scopes.{is_global}
 use Rattle.type_derive.specs.Built as b
 use Rattle.type_derive.specs.Built.{Site}
-use Rattle.type_derive.specs.Libraries.{OnlyFunctions, library_failure}
+use Rattle.typed_laws.specs.Libraries.{OnlyFunctions, library_failure}
 use Rattle.type_derive.specs.Making.{Made, Making, pure, ◌>=>◌}
 use Rattle.type_derive.specs.Nodes.{failures, initial_failure, own_bound, statements_failure}
 use Rattle.type_derive.specs.Passes.{outside_failure, globals_failure, main_failure, body_failure, own_super_call, made_failure, constructor_failure, members_nodes, item_nodes, nodes_failure}
-use Rattle.type_derive.specs.Programs as p
-use Rattle.type_derive.specs.Programs.{◌before◌, each_made, outer_site, site}
+use Rattle.type_derive.specs.Functions as tf
+use Rattle.typed_laws.specs.Programs as p
+use Rattle.typed_laws.specs.Programs.{◌before◌, each_made, outer_site}
+use Rattle.type_derive.specs.Functions.{site}
 use Rattle.type_derive.specs.Returns.{parameter_locals, within, bound}
 use Rattle.type_derive.specs.Typing.{◌>>=◌, types_of}
 use Rattle.type_derive.specs.inner.Filled as f
-use Rattle.type_derive.specs.inner.FilledPrograms as fp
+use Rattle.typed_laws.specs.inner.FilledPrograms as fp
 use Rattle.type_derive.specs.inner.Filling as f'
 use Rattle.typed_laws.specs.WholePrograms.{HasItsType, HasMember, NamesAreMembers}
 use Rattle.typed_laws.proofs.Agreeing.{Agree, agree1, agree2, agree_routines}
@@ -59,21 +61,21 @@ module _ (tables : Tables) (names : Naming) (k : Known) (numbers : Numbering) wh
   -- a function's statements, of which it is known that they are made
   routines_so : (params : List ValueType) (result : Option StaticType) (n : ℕ) (x : Making TypedStatements) (y : f'.Making TypedStatements) → IsSome result → Agree x y
       → (result >>= λ u. b.routines_made params (value_type u) x n)
-      ≡ Some ((f.routine tables names k numbers params (fp.class_result tables names k numbers result) y n).it ∷ (f.routine tables names k numbers params (fp.class_result tables names k numbers result) y n).routines)
+      ≡ Some ((f.routine tables names k numbers params (f.class_result tables names k numbers result) y n).it ∷ (f.routine tables names k numbers params (f.class_result tables names k numbers result) y n).routines)
   routines_so params result n x y typed h =
       ap (λ (o : Option StaticType). o >>= λ u. b.routines_made params (value_type u) x n) (there result nothing (has_some result typed))
       ∙ agree_routines params (value_type (unwrap_or result nothing)) x y n h
 
   pub function_so : (library : Bool) (n : ℕ) (result : Option StaticType) (i : ℕ) (params : List Parameter) (gives : Option Annotation) (all : Statements) (arrow : Bool) → IsSome result
       → statements_failure tables names k (within (parameter_locals names params) this.Nowhere result library) all ≡ None
-      → p.function_made tables names k numbers library n result (Does i params gives all arrow) ≡ Some (fp.function_made tables names k numbers library n result (Does i params gives all arrow))
+      → tf.function_made tables names k numbers library n result (Does i params gives all arrow) ≡ Some (f.function_made tables names k numbers library n result (Does i params gives all arrow))
   function_so library n result i params gives all arrow typed h =
       routines_so (value_types (parameter_kinds names params)) result n _ _ typed
       (statements tables names k numbers (site names this.Nowhere result library 0 params) all (parameters_spots names 0 params) h)
 
   pub method_so : (c n : ℕ) (result : Option StaticType) (i : ℕ) (params : List Parameter) (gives : Option Annotation) (all : Statements) (arrow : Bool) → IsSome result
       → statements_failure tables names k (within (parameter_locals names params) (this.Object c) result false) all ≡ None
-      → p.method_made tables names k numbers c n result (Does i params gives all arrow) ≡ Some (fp.method_made tables names k numbers c n result (Does i params gives all arrow))
+      → tf.method_made tables names k numbers c n result (Does i params gives all arrow) ≡ Some (f.method_made tables names k numbers c n result (Does i params gives all arrow))
   method_so c n result i params gives all arrow typed h =
       routines_so (t.Object c ∷ value_types (parameter_kinds names params)) result n _ _ typed
       (statements tables names k numbers (site names (this.Object c) result false 1 params) all (parameters_spots names 1 params) h)
@@ -96,7 +98,7 @@ module _ (tables : Tables) (names : Naming) (k : Known) (numbers : Numbering) wh
       → p.initial_made tables names k numbers c n (Declare i x shape a) ≡ Some (fp.initial_made tables names k numbers c n (Declare i x shape a))
   initial_so c n i x shape a h = first_so (this.Object c) i x shape a h 0 n
 
-  set_so : (c d i x : ℕ) (shape : Option Annotation) (a : OptionalTree) (r : Option TypedTree) → IsSome (kind_at k d) → p.set_field tables names k numbers c d (Declare i x shape a) r ≡ Some (fp.set_field tables names k numbers c d (Declare i x shape a) r)
+  set_so : (c d i x : ℕ) (shape : Option Annotation) (a : OptionalTree) (r : Option TypedTree) → IsSome (kind_at k d) → p.set_field k c d (Declare i x shape a) r ≡ Some (fp.set_field tables names k numbers c d (Declare i x shape a) r)
   set_so c d i x shape a None h = refl
   set_so c d i x shape a (Some r) h =
       ap (λ (u : Option StaticType). u >>= λ kind. Some (e.Plain (e.Set (value_type kind) None (e.Field (value_type kind) (e.This (t.Object c)) (place_among (field_names k c) x)) r) ∷ []))
@@ -114,20 +116,20 @@ module _ (tables : Tables) (names : Naming) (k : Known) (numbers : Numbering) wh
       subst G (sym is) base h
     where
       given_super : (s : Site) (b' l : ℕ) (args : Trees) (us : Option (List StaticType)) → length s.spots ≡ length s.place.locals → types_of tables k s.place args ≡ us → failures tables names k s.place [] args ≡ None
-          → own_super_call tables names k us (maker_takes_of k.classes b') l ≡ None
+          → own_super_call k us (maker_takes_of k.classes b') l ≡ None
           → Agree (b.made_given tables names k numbers s (maker_takes_of k.classes b') args) (f.made_given tables names k numbers s (maker_takes_of k.classes b') args)
       given_super s b' l args (Some us) hs q h g = given tables names k numbers s (maker_takes_of k.classes b') us args hs h q (unless_true (all_go k.classes us (maker_takes_of k.classes b')) Mismatch l g)
       given_super s b' l args None hs q h g = cc
 
       super_first : (s : Site) (b' : ℕ) (inits : List TypedStatement) (l : ℕ) (args : Trees) (rest : Statements) → length s.spots ≡ length s.place.locals
-          → (failures tables names k s.place [] args then own_super_call tables names k (types_of tables k s.place args) (maker_takes_of k.classes b') l then statements_failure tables names k s.place rest) ≡ None
-          → Agree (b.made_given tables names k numbers s (maker_takes_of k.classes b') args >=> λ ys. b.made_statements tables names k numbers s rest >=> λ xs. pure (e.also (p.super_called tables names k numbers b' ys) (inits before xs)))
-          (onward (f.made_given tables names k numbers s (maker_takes_of k.classes b') args) (λ ys. onward (f.made_statements tables names k numbers s rest) (λ xs. f'.pure (e.also (fp.super_called tables names k numbers b' ys) (inits before xs)))))
+          → (failures tables names k s.place [] args then own_super_call k (types_of tables k s.place args) (maker_takes_of k.classes b') l then statements_failure tables names k s.place rest) ≡ None
+          → Agree (b.made_given tables names k numbers s (maker_takes_of k.classes b') args >=> λ ys. b.made_statements tables names k numbers s rest >=> λ xs. pure (e.also (p.super_called numbers b' ys) (inits before xs)))
+          (onward (f.made_given tables names k numbers s (maker_takes_of k.classes b') args) (λ ys. onward (f.made_statements tables names k numbers s rest) (λ xs. f'.pure (e.also (p.super_called numbers b' ys) (inits before xs)))))
       super_first s b' inits l args rest hs h =
           let A : Option Failure = failures tables names k s.place [] args in
-          let B : Option Failure = own_super_call tables names k (types_of tables k s.place args) (maker_takes_of k.classes b') l in
+          let B : Option Failure = own_super_call k (types_of tables k s.place args) (maker_takes_of k.classes b') l in
           let C : Option Failure = statements_failure tables names k s.place rest in
-          agree2 (λ ys xs. e.also (p.super_called tables names k numbers b' ys) (inits before xs)) _ _ _ _
+          agree2 (λ ys xs. e.also (p.super_called numbers b' ys) (inits before xs)) _ _ _ _
           (given_super s b' l args (types_of tables k s.place args) hs refl (first A (B then C) h) (first B C (last A (B then C) h)))
           (statements tables names k numbers s rest hs (last B C (last A (B then C) h)))
 
@@ -166,7 +168,7 @@ module _ (tables : Tables) (names : Naming) (k : Known) (numbers : Numbering) wh
         let y : Made (Option TypedTree) = fp.initial_made tables names k numbers c n D in
         let xs : List TypedStatement = fp.set_field tables names k numbers c d D y.it in
         let later : Option (List TypedStatement) = p.initials tables names k numbers c (n + declared_handlers D) (suc d) rest in
-        ap (λ (z : Option (Made (Option TypedTree))). z >>= λ y. p.set_field tables names k numbers c d D y.it >>= λ sets. later >>= λ more. Some (sets ++ more)) (initial_so c n i x shape a (first A B h))
+        ap (λ (z : Option (Made (Option TypedTree))). z >>= λ y. p.set_field k c d D y.it >>= λ sets. later >>= λ more. Some (sets ++ more)) (initial_so c n i x shape a (first A B h))
         ∙ ap (λ (z : Option (List TypedStatement)). z >>= λ sets. later >>= λ more. Some (sets ++ more)) (set_so c d i x shape a y.it (field_typed d en (member_entries names c rest ++ es) refl s))
         ∙ ap (λ (z : Option (List TypedStatement)). z >>= λ more. Some (xs ++ more)) (initials_so c (n + declared_handlers D) (suc d) rest es (suffix_one k.entries d en (member_entries names c rest ++ es) s) (last A B h))
     initials_so c n d (Method x (Does i params gives all arrow) ∷ rest) es s h =
@@ -205,8 +207,8 @@ module _ (tables : Tables) (names : Naming) (k : Known) (numbers : Numbering) wh
     class_so c n d members es s h =
         let n' : ℕ = n + unwritten members in
         let inits : List TypedStatement = fp.initials tables names k numbers c n' d members in
-        ap (λ (z : Option (List TypedStatement)). z >>= λ inits. p.members_made tables names k numbers c inits n' d members >>= λ more. Some (p.unwritten_made tables names k numbers (unwritten members) c inits ++ more)) (initials_so c n' d members es s h)
-        ∙ ap (λ (z : Option (List TypedRoutine)). z >>= λ more. Some (p.unwritten_made tables names k numbers (unwritten members) c inits ++ more)) (members_so c inits n' d members es s h)
+        ap (λ (z : Option (List TypedStatement)). z >>= λ inits. p.members_made tables names k numbers c inits n' d members >>= λ more. Some (p.unwritten_made k numbers (unwritten members) c inits ++ more)) (initials_so c n' d members es s h)
+        ∙ ap (λ (z : Option (List TypedRoutine)). z >>= λ more. Some (p.unwritten_made k numbers (unwritten members) c inits ++ more)) (members_so c inits n' d members es s h)
 
     -- the main program
     globals_so : (d : ℕ) (each : Declarations) → globals_failure tables names k each ≡ None → Agree (p.globals_made tables names k numbers d each) (fp.globals_made tables names k numbers d each)
@@ -271,7 +273,7 @@ module _ (tables : Tables) (names : Naming) (k : Known) (numbers : Numbering) wh
         let d' : ℕ = d + 1 in
         let n' : ℕ = n + item_routines T in
         let B : Option Failure = nodes_failure tables names k (c + 0) d' rest in
-        let own = fp.function_made tables names k numbers false n (kind_at k d) R in
+        let own = f.function_made tables names k numbers false n (kind_at k d) R in
         let X : Made (List TypedStatement) = record { it = []; locals = []; routines = own } in
         let en : Entry = record { at = i; owner = o.Whole; name = x; sort = sort.Function; takes = parameter_kinds names params } in
         let made_so = function_so false n (kind_at k d) i params gives all arrow (typed_so d en (suffix_head k.entries d en (entries_from names (c + 0) rest) s) near) (first A B h) in
@@ -298,19 +300,19 @@ module _ (tables : Tables) (names : Naming) (k : Known) (numbers : Numbering) wh
         ∙ ap (λ (z : Option (Made TypedStatements)). all_of X z) later ∙ ap (λ (j : ℕ). all_of X (Some (fp.items_made tables names k numbers j d' m' n' rest))) c_step
 
     -- globals
-    pub globals_typed : (d : ℕ) (es : List Entry) → Suffix k.entries d es → p.global_types tables names k numbers d es ≡ Some (fp.global_types tables names k numbers d es)
+    pub globals_typed : (d : ℕ) (es : List Entry) → Suffix k.entries d es → p.global_types k d es ≡ Some (fp.global_types tables names k numbers d es)
     globals_typed d [] s = refl
     globals_typed d (a ∷ rest) s =
         let later = globals_typed (suc d) rest (suffix_one k.entries d a rest s) in
-        let L : Option (List ValueType) = p.global_types tables names k numbers (suc d) rest in
+        let L : Option (List ValueType) = p.global_types k (suc d) rest in
         let L' : List ValueType = fp.global_types tables names k numbers (suc d) rest in
         let go : (x : DeclarationKind) → HasItsType k d x
         → elim (is_global x) [ true ↦ kind_at k d >>= λ u. L >>= λ us. Some (value_type u ∷ us) | false ↦ L ]
-        ≡ Some (elim (is_global x) [ true ↦ fp.class_result tables names k numbers (kind_at k d) ∷ L' | false ↦ L' ]) =
+        ≡ Some (elim (is_global x) [ true ↦ f.class_result tables names k numbers (kind_at k d) ∷ L' | false ↦ L' ]) =
         λ x. elim x as (λ y. HasItsType k d y → elim (is_global y) [ true ↦ kind_at k d >>= λ u. L >>= λ us. Some (value_type u ∷ us) | false ↦ L ]
-        ≡ Some (elim (is_global y) [ true ↦ fp.class_result tables names k numbers (kind_at k d) ∷ L' | false ↦ L' ])) [
+        ≡ Some (elim (is_global y) [ true ↦ f.class_result tables names k numbers (kind_at k d) ∷ L' | false ↦ L' ])) [
           | sort.Global fixed ↦ (λ q. ap (λ (z : Option StaticType). z >>= λ u. L >>= λ us. Some (value_type u ∷ us)) (there (kind_at k d) nothing (has_some (kind_at k d) q))
-              ∙ ap (λ (z : Option (List ValueType)). z >>= λ us. Some (fp.class_result tables names k numbers (kind_at k d) ∷ us)) later)
+              ∙ ap (λ (z : Option (List ValueType)). z >>= λ us. Some (f.class_result tables names k numbers (kind_at k d) ∷ us)) later)
           | sort.Function ↦ (λ q. later)
           | sort.Field ↦ (λ q. later)
           | sort.Method ↦ (λ q. later)
@@ -339,36 +341,36 @@ module _ (tables : Tables) (names : Naming) (k : Known) (numbers : Numbering) wh
         ∙ ap (λ (z : Option (List A)). z >>= λ ys. Some (fill x ∷ ys)) (each_so make fill xs (λ y q. h y (behind x xs y q)))
 
     module _ (members : NamesAreMembers k) where
-      kind_there : (c x : ℕ) → HasMember k c x sort.Field → p.member_kind tables names k numbers c x ≡ Some (fp.member_kind tables names k numbers c x)
+      kind_there : (c x : ℕ) → HasMember k c x sort.Field → p.member_kind k c x ≡ Some (fp.member_kind tables names k numbers c x)
       kind_there c x (d, is, s) =
           let (a, at, same) = entry_of d sort.Field s in
           let typed : IsSome (kind_at k d) = subst (λ (y : DeclarationKind). HasItsType k d y) same (typed_so d a at) in
           ap (λ (z : Option ℕ). z >>= λ d. option_map value_type (kind_at k d)) is ∙ mapped (kind_at k d) (has_some (kind_at k d) typed)
-          ∙ sym (ap (λ (z : Option ℕ). Some (elim z [ None ↦ t.Nothing | Some d ↦ fp.class_result tables names k numbers (kind_at k d) ])) is)
+          ∙ sym (ap (λ (z : Option ℕ). Some (elim z [ None ↦ t.Nothing | Some d ↦ f.class_result tables names k numbers (kind_at k d) ])) is)
 
-      routine_there : (c x : ℕ) → HasMember k c x sort.Method → p.member_routine tables names k numbers c x ≡ Some (fp.member_routine tables names k numbers c x)
+      routine_there : (c x : ℕ) → HasMember k c x sort.Method → p.member_routine k numbers c x ≡ Some (fp.member_routine tables names k numbers c x)
       routine_there c x (d, is, s) =
           ap (λ (z : Option ℕ). option_map (routine_number numbers) z) is ∙ sym (ap (λ (z : Option ℕ). Some (elim z [ None ↦ 0 | Some d ↦ routine_number numbers d ])) is)
 
-      class_entry_so : (c : ℕ) → c < length k.classes → p.class_entry tables names k numbers c ≡ Some (fp.class_entry tables names k numbers c)
+      class_entry_so : (c : ℕ) → c < length k.classes → p.class_entry k numbers c ≡ Some (fp.class_entry tables names k numbers c)
       class_entry_so c near =
           let F : List ValueType = map (fp.member_kind tables names k numbers c) (field_names k c) in
           let K : List ValueType → List ℕ → ClassEntry = λ fields slots. record { base = base_of k.classes c; fields = fields; slots = slots; maker = maker_number numbers c } in
-          ap (λ (z : Option (List ValueType)). z >>= λ fields. each_made (p.member_routine tables names k numbers c) (slot_names k c) >>= λ slots. Some (K fields slots))
-          (each_so (p.member_kind tables names k numbers c) (fp.member_kind tables names k numbers c) (field_names k c) (λ x q. kind_there c x (members.fields c x near q)))
+          ap (λ (z : Option (List ValueType)). z >>= λ fields. each_made (p.member_routine k numbers c) (slot_names k c) >>= λ slots. Some (K fields slots))
+          (each_so (p.member_kind k c) (fp.member_kind tables names k numbers c) (field_names k c) (λ x q. kind_there c x (members.fields c x near q)))
           ∙ ap (λ (z : Option (List ℕ)). z >>= λ slots. Some (K F slots))
-          (each_so (p.member_routine tables names k numbers c) (fp.member_routine tables names k numbers c) (slot_names k c) (λ x q. routine_there c x (members.slots c x near q)))
+          (each_so (p.member_routine k numbers c) (fp.member_routine tables names k numbers c) (slot_names k c) (λ x q. routine_there c x (members.slots c x near q)))
 
-      pub classes_so : (c : ℕ) (heads : List ClassHead) → Suffix k.classes c heads → p.class_entries tables names k numbers c heads ≡ Some (fp.class_entries tables names k numbers c heads)
+      pub classes_so : (c : ℕ) (heads : List ClassHead) → Suffix k.classes c heads → p.class_entries k numbers c heads ≡ Some (fp.class_entries tables names k numbers c heads)
       classes_so c [] s = refl
       classes_so c (head ∷ rest) s =
           let near : c < length k.classes = get_within k.classes c head (suffix_head k.classes c head rest s) in
-          ap (λ (z : Option ClassEntry). z >>= λ x. p.class_entries tables names k numbers (suc c) rest >>= λ xs. Some (x ∷ xs)) (class_entry_so c near)
+          ap (λ (z : Option ClassEntry). z >>= λ x. p.class_entries k numbers (suc c) rest >>= λ xs. Some (x ∷ xs)) (class_entry_so c near)
           ∙ ap (λ (z : Option (List ClassEntry)). z >>= λ xs. Some (fp.class_entry tables names k numbers c ∷ xs)) (classes_so (suc c) rest (suffix_one k.classes c head rest s))
 
   -- the library, whose functions are there
   pub library_typed : (d n i : ℕ) (params : List Parameter) (gives : Option Annotation) (all : Statements) (arrow : Bool) (own : List TypedRoutine)
-      → p.function_made tables names k numbers true n (kind_at k d) (Does i params gives all arrow) ≡ Some own → IsSome (kind_at k d)
+      → tf.function_made tables names k numbers true n (kind_at k d) (Does i params gives all arrow) ≡ Some own → IsSome (kind_at k d)
   library_typed d n i params gives all arrow own h =
       let (u, is, q) = bind_some (kind_at k d) (λ u. b.routines_made (value_types (parameter_kinds names params)) (value_type u) (b.made_statements tables names k numbers (site names this.Nowhere (kind_at k d) true 0 params) all) n) own h in
       some (kind_at k d) (record { it = u; is = is })
@@ -381,8 +383,8 @@ module _ (tables : Tables) (names : Naming) (k : Known) (numbers : Numbering) wh
       let A : Option Failure = statements_failure tables names k (within (parameter_locals names params) this.Nowhere (kind_at k d) true) all in
       let B : Option Failure = library_failure tables names k (suc d) rest in
       let later : Option (List TypedRoutine) = p.library_made tables names k numbers (suc d) (n + item_routines (Function x R)) rest in
-      let own' : List TypedRoutine = fp.function_made tables names k numbers true n (kind_at k d) R in
-      let (own, own_is, q1) = bind_some (p.function_made tables names k numbers true n (kind_at k d) R) (λ own. later >>= λ more. Some (own ++ more)) rs q in
+      let own' : List TypedRoutine = f.function_made tables names k numbers true n (kind_at k d) R in
+      let (own, own_is, q1) = bind_some (tf.function_made tables names k numbers true n (kind_at k d) R) (λ own. later >>= λ more. Some (own ++ more)) rs q in
       let (more, more_is, q2) = bind_some later (λ more. Some (own ++ more)) rs q1 in
       let typed : IsSome (kind_at k d) = library_typed d n i params gives all arrow own own_is in
       let same : own ≡ own' = some_is own own' (sym own_is ∙ function_so true n (kind_at k d) i params gives all arrow typed (first A B h)) in

@@ -13,15 +13,14 @@ use Rattle.sts_scope.specs.Failures.{Failure, ◌then◌}
 use Rattle.sts_scope.specs.Handlers.{all_routines}
 use Rattle.sts_scope.specs.Numbers.{Numbering, numbering}
 use Rattle.sts_scope.specs.Scopes.{all_names, library_classes}
-use Rattle.type_derive.specs.Accepted.{AreDerived, known, main_routine, typed, text_failure}
-use Rattle.type_derive.specs.Derived.{TypeTable}
-use Rattle.type_derive.specs.Libraries.{IsLibrary}
-use Rattle.type_derive.specs.Limits.{limits_failure}
+use Rattle.type_derive.specs.Derived.{AreDerived, known, TypeTable}
+use Rattle.typed_laws.specs.Accepted.{main_routine, typed, text_failure, limits_failure}
+use Rattle.typed_laws.specs.Libraries.{IsLibrary}
 use Rattle.type_derive.specs.Making.{Made}
-use Rattle.type_derive.specs.Programs as p
+use Rattle.typed_laws.specs.Programs as p
 use Rattle.type_derive.specs.Typing.{◌>>=◌}
-use Rattle.type_derive.specs.inner.FilledPrograms as fp
-use Rattle.type_derive.specs.inner.FilledTexts.{filled_program}
+use Rattle.typed_laws.specs.inner.FilledPrograms as fp
+use Rattle.typed_laws.specs.inner.FilledTexts.{filled_program}
 use Rattle.typed_laws.specs.BuiltTexts.{TextsAreBuilt, RefusalsAreFound}
 use Rattle.typed_laws.specs.WholePrograms.{IsAcceptedWith, HasItsType}
 use Rattle.typed_laws.proofs.BuiltPrograms.{items_so, globals_typed, classes_so, library_so}
@@ -71,8 +70,8 @@ texts_built tables library text kinds derived ok none =
     let classes_is = classes_so tables names k numbers typed_so (whole.members tables library text kinds with_it) 0 k.classes (suffix_all k.classes) in
     let globals_is = globals_typed tables names k numbers typed_so 0 k.entries (suffix_all k.entries) in
     let made : Option (Made TypedStatements) = p.items_made tables names k numbers (library_classes library text) k.library 0 (all_routines library) text in
-    let made_classes : Option (List ClassEntry) = p.class_entries tables names k numbers 0 k.classes in
-    let made_globals : Option (List ValueType) = p.global_types tables names k numbers 0 k.entries in
+    let made_classes : Option (List ClassEntry) = p.class_entries k numbers 0 k.classes in
+    let made_globals : Option (List ValueType) = p.global_types k 0 k.entries in
     ap (λ (z : Option (List TypedRoutine)). z >>= λ first. made >>= λ x. made_classes >>= λ classes. made_globals >>= λ globals. G first x classes globals) front_is
     ∙ ap (λ (z : Option (Made TypedStatements)). z >>= λ x. made_classes >>= λ classes. made_globals >>= λ globals. G front x classes globals) back_is
     ∙ ap (λ (z : Option (List ClassEntry)). z >>= λ classes. made_globals >>= λ globals. G front back classes globals) classes_is

@@ -124,7 +124,7 @@ module _ (tables : Tables) (names : Naming) (k : Known) (numbers : Numbering) wh
   free s a = f.type_in tables names k numbers s a
 
   abbrev Noted : Site → Option StaticType → Tree → Type 0
-  Noted s g a = b.noted tables names k numbers s g a ≡ Some (note s g a)
+  Noted s g a = b.noted tables k s g a ≡ Some (note s g a)
 
   -- the type of an expression without a failure is there
   free_there : (s : Site) (a : Tree) → bad s Free a ≡ None → ty s Free a ≡ Some (free s a)
@@ -161,8 +161,8 @@ module _ (tables : Tables) (names : Naming) (k : Known) (numbers : Numbering) wh
   noted_there s g (Handler i body) h = mapped (ty s (kind_role g) (Handler i body)) (has s g (Handler i body) h)
 
   as_noted_is : (s : Site) (g : Option StaticType) (a : Tree) (make : ValueType → TypedTree) → bad s (kind_role g) a ≡ None
-      → Agree (b.as_noted tables names k numbers s g a make) (f'.pure (make (note s g a)))
-  as_noted_is s g a make h = agree_looked (b.noted tables names k numbers s g a) (note s g a) (λ u. pure (make u)) (f'.pure (make (note s g a))) (noted_there s g a h) (λ m n. refl)
+      → Agree (b.as_noted tables k s g a make) (f'.pure (make (note s g a)))
+  as_noted_is s g a make h = agree_looked (b.noted tables k s g a) (note s g a) (λ u. pure (make u)) (f'.pure (make (note s g a))) (noted_there s g a h) (λ m n. refl)
 
   -- names
   name_so : (s : Site) (l : Found) → HasSpots s → IsReadName k s.place l → spot_of k s.spots l ≡ Some (f.spot_of tables names k numbers s l)
@@ -193,7 +193,7 @@ module _ (tables : Tables) (names : Naming) (k : Known) (numbers : Numbering) wh
   abbrev member_made : Site → Option StaticType → ℕ → Tree → ℕ → Option ℤ → Making TypedTree
   member_made s g i a m z = elim z [
     | Some y ↦ pure (e.Num t.Number y)
-    | None ↦ looked (b.noted tables names k numbers s g (Member i a m)) (λ u. looked (b.type_in tables names k numbers s a) (λ v. mk s None a
+    | None ↦ looked (b.noted tables k s g (Member i a m)) (λ u. looked (b.type_in tables k s a) (λ v. mk s None a
         >=> λ x. looked (member_read k u v m (part_of tables.names k v m) x) pure))
   ]
 
@@ -216,7 +216,7 @@ module _ (tables : Tables) (names : Naming) (k : Known) (numbers : Numbering) wh
       let u : ValueType = note s g (Member i a m) in
       let T : TypedTree → f'.Making TypedTree = λ x. f'.pure (f.member_read tables names k numbers u (f.part_in tables names k numbers s a m) (f.class_in tables names k numbers s a) m x) in
       let R : StaticType → ValueType → Making TypedTree = λ y o. mk s None a >=> λ x. looked (member_read k o y m (part_of tables.names k y m) x) pure in
-      agree_looked (b.noted tables names k numbers s g (Member i a m)) u (λ o. looked (b.type_in tables names k numbers s a) (λ y. R y o)) (onward (fk s None a) T) q
+      agree_looked (b.noted tables k s g (Member i a m)) u (λ o. looked (b.type_in tables k s a) (λ y. R y o)) (onward (fk s None a) T) q
       (agree_looked (ty s Free a) (free s a) (λ y. R y u) (onward (fk s None a) T) (free_there s a none)
       (agree_bind (mk s None a) (λ x. looked (member_read k u (free s a) m (part_of tables.names k (free s a) m) x) pure) (fk s None a) T (inside none)
       (λ x. agree_looked (member_read k u (free s a) m (part_of tables.names k (free s a) m) x) _ pure (T x) (read_so' u (free s a) m (part_of tables.names k (free s a) m) x w') (λ j n. refl))))
@@ -225,8 +225,8 @@ module _ (tables : Tables) (names : Naming) (k : Known) (numbers : Numbering) wh
   abbrev call_made : Site → Option StaticType → ℕ → Tree → Trees → Option BoardCall → Making TypedTree
   call_made s g i l args o = elim o [
     | Some call ↦ b.made_asked tables names k numbers s (row_of call).takes args
-        >=> λ xs. b.as_noted tables names k numbers s g (Call i l args) (λ u. e.Call u (board_target call (row_of call).action) xs)
-    | None ↦ looked (b.noted tables names k numbers s g (Call i l args)) (λ u. b.made_call tables names k numbers s u l (λ takes. b.made_given tables names k numbers s takes args))
+        >=> λ xs. b.as_noted tables k s g (Call i l args) (λ u. e.Call u (board_target call (row_of call).action) xs)
+    | None ↦ looked (b.noted tables k s g (Call i l args)) (λ u. b.made_call tables names k numbers s u l (λ takes. b.made_given tables names k numbers s takes args))
   ]
 
   abbrev call_filled : Site → Option StaticType → ℕ → Tree → Trees → Option BoardCall → f'.Making TypedTree
@@ -251,7 +251,7 @@ module _ (tables : Tables) (names : Naming) (k : Known) (numbers : Numbering) wh
   AskedSo s args = (ps : List BoardParameter) → failures tables names k s.place ps args ≡ None → are_given tables k s.place ps args ≡ true
       → Agree (b.made_asked tables names k numbers s ps args) (f.made_asked tables names k numbers s ps args)
 
-  function_so : (s : Site) (u : ValueType) (args : Trees) (l : Found) (d : Callee) → IsCalledName l → Typing.named_callee tables k l ≡ Some d → ArgumentsGo tables k s.place d.takes args → failures tables names k s.place [] args ≡ None → GivenSo s args
+  function_so : (s : Site) (u : ValueType) (args : Trees) (l : Found) (d : Callee) → IsCalledName l → Typing.named_callee k l ≡ Some d → ArgumentsGo tables k s.place d.takes args → failures tables names k s.place [] args ≡ None → GivenSo s args
       → Agree (looked (function_found l) (λ j. b.made_given tables names k numbers s (takes_at k.entries j) args >=> λ xs. pure (e.Call u (c.Function (routine_number numbers j)) xs)))
       (onward (f.made_given tables names k numbers s (f.routine_takes tables names k numbers l) args) (λ xs. f'.pure (e.Call u (c.Function (f.routine_of tables names k numbers l)) xs)))
   function_so s u args (found.Function j) d called is (us, ts, go) ha given_so =
@@ -264,7 +264,7 @@ module _ (tables : Tables) (names : Naming) (k : Known) (numbers : Numbering) wh
   function_so s u args (found.Class j) d called is go ha given_so = absurd called
   function_so s u args found.Unknown d called is go ha given_so = absurd called
 
-  part_takes_so : (l : Part) (d : Callee) → Typing.part_callee tables k l ≡ Some d → (part_takes k l ≡ d.takes) × (part_takes k l ≡ f.part_takes tables names k numbers l)
+  part_takes_so : (l : Part) (d : Callee) → Typing.part_callee k l ≡ Some d → (part_takes k l ≡ d.takes) × (part_takes k l ≡ f.part_takes tables names k numbers l)
   part_takes_so (part.Method j) d is = (ap (λ (x : Callee). x.takes) (some_is _ d is), refl)
   part_takes_so (part.Push y) d is = (ap (λ (x : Callee). x.takes) (some_is _ d is), refl)
   part_takes_so (part.Pop y) d is = (ap (λ (x : Callee). x.takes) (some_is _ d is), refl)
@@ -285,7 +285,7 @@ module _ (tables : Tables) (names : Naming) (k : Known) (numbers : Numbering) wh
       let here : v ≡ w = some_is v w (sym is ∙ w_is) in
       let l : Part = part_of tables.names k w m in
       let called' : IsCalledPart w l = subst (λ (y : StaticType). IsCalledPart y (part_of tables.names k y m)) here called in
-      let callee_is' : Typing.part_callee tables k l ≡ Some d = sym (ap (λ (o : Option StaticType). o >>= λ y. Typing.part_callee tables k (part_of tables.names k y m)) w_is) ∙ callee_is in
+      let callee_is' : Typing.part_callee k l ≡ Some d = sym (ap (λ (o : Option StaticType). o >>= λ y. Typing.part_callee k (part_of tables.names k y m)) w_is) ∙ callee_is in
       let (takes_is, same) = part_takes_so l d callee_is' in
       let go' : all_go k.classes us (part_takes k l) ≡ true = subst (λ (vs : List StaticType). all_go k.classes us vs ≡ true) (sym takes_is) go in
       let target : Target = f.part_target tables names k numbers l (unwrap_or (class_of w) 0) m in
@@ -303,7 +303,7 @@ module _ (tables : Tables) (names : Naming) (k : Known) (numbers : Numbering) wh
   -- `super.m(..)`
   super_so : (s : Site) (g : Option StaticType) (i m : ℕ) (args : Trees) (o : Option ℕ) → Noted s g (SuperCall i (Some m) args) → (bad s (kind_role g) (SuperCall i (Some m) args) ≡ None) → (d : ℕ) → o ≡ Some d → ArgumentsGo tables k s.place (takes_at k.entries d) args
       → failures tables names k s.place [] args ≡ None → GivenSo s args
-      → Agree (looked o (λ j. b.made_given tables names k numbers s (takes_at k.entries j) args >=> λ xs. b.as_noted tables names k numbers s g (SuperCall i (Some m) args) (λ u. e.SuperCall u (routine_number numbers j) xs)))
+      → Agree (looked o (λ j. b.made_given tables names k numbers s (takes_at k.entries j) args >=> λ xs. b.as_noted tables k s g (SuperCall i (Some m) args) (λ u. e.SuperCall u (routine_number numbers j) xs)))
       (elim o [
         | None ↦ f'.pure (f.amiss)
         | Some j ↦ onward (f.made_given tables names k numbers s (takes_at k.entries j) args) (λ xs. f'.pure (e.SuperCall (note s g (SuperCall i (Some m) args)) (routine_number numbers j) xs))
@@ -311,7 +311,7 @@ module _ (tables : Tables) (names : Naming) (k : Known) (numbers : Numbering) wh
   super_so s g i m args (Some j) q h d is (us, ts, go) ha given_so =
       let same : d ≡ j = some_is d j (sym is) in
       let go' : all_go k.classes us (takes_at k.entries j) ≡ true = subst (λ (x : ℕ). all_go k.classes us (takes_at k.entries x) ≡ true) same go in
-      agree_bind (b.made_given tables names k numbers s (takes_at k.entries j) args) (λ xs. b.as_noted tables names k numbers s g (SuperCall i (Some m) args) (λ u. e.SuperCall u (routine_number numbers j) xs))
+      agree_bind (b.made_given tables names k numbers s (takes_at k.entries j) args) (λ xs. b.as_noted tables k s g (SuperCall i (Some m) args) (λ u. e.SuperCall u (routine_number numbers j) xs))
       (f.made_given tables names k numbers s (takes_at k.entries j) args) (λ xs. f'.pure (e.SuperCall (note s g (SuperCall i (Some m) args)) (routine_number numbers j) xs))
       (given_so (takes_at k.entries j) us ha ts go') (λ xs. as_noted_is s g (SuperCall i (Some m) args) (λ u. e.SuperCall u (routine_number numbers j) xs) h)
   super_so s g i m args None q h d is go ha given_so = cc
@@ -331,7 +331,7 @@ module _ (tables : Tables) (names : Naming) (k : Known) (numbers : Numbering) wh
   make_so s args found.Unknown class is go ha given_so = cc
 
   -- a function's name where a handler is wanted
-  plain_so : (l : Found) → names_function tables k l ≡ true → Agree (looked (function_found l) (λ d. pure (e.Handler t.Nothing (routine_number numbers d)))) (f'.pure (e.Handler t.Nothing (f.routine_of tables names k numbers l)))
+  plain_so : (l : Found) → names_function l ≡ true → Agree (looked (function_found l) (λ d. pure (e.Handler t.Nothing (routine_number numbers d)))) (f'.pure (e.Handler t.Nothing (f.routine_of tables names k numbers l)))
   plain_so (found.Function d) h = λ m n. refl
   plain_so (found.Local i) h = cc
   plain_so (found.Global i) h = cc
@@ -343,7 +343,7 @@ module _ (tables : Tables) (names : Naming) (k : Known) (numbers : Numbering) wh
   drawn_so n true h = λ m o. refl
   drawn_so n false h = cc
 
-  drawing : (s : Site) (a : Tree) → is_drawing tables a ≡ true → Agree (b.drawing tables names k a) (f'.pure (f.drawing tables names k numbers a))
+  drawing : (s : Site) (a : Tree) → is_drawing tables a ≡ true → Agree (b.drawing tables a) (f'.pure (f.drawing tables names k numbers a))
   drawing s (Text i n) h = drawn_so n (draws (text_at tables n)) h
   drawing s a h = cc
 
@@ -369,17 +369,17 @@ module _ (tables : Tables) (names : Naming) (k : Known) (numbers : Numbering) wh
     tree s g (Name i x) hs h =
         let l : Found = finds tables k s.place x in
         let spot : Spot = f.spot_of tables names k numbers s l in
-        agree_looked (spot_of k s.spots l) spot (λ o. b.as_noted tables names k numbers s g (Name i x) (λ u. e.Name u o)) (f'.pure (e.Name (note s g (Name i x)) spot))
+        agree_looked (spot_of k s.spots l) spot (λ o. b.as_noted tables k s g (Name i x) (λ u. e.Name u o)) (f'.pure (e.Name (note s g (Name i x)) spot))
         (name_so s l hs (node_whole tables k s.place names (kind_role g) (Name i x) (read_so g) h)) (as_noted_is s g (Name i x) (λ u. e.Name u spot) h)
     tree s g (Unary i op a) hs h =
-        agree_bind (mk s None a) (λ x. b.as_noted tables names k numbers s g (Unary i op a) (λ u. e.Unary u op x)) (fk s None a) (λ x. f'.pure (e.Unary (note s g (Unary i op a)) op x))
+        agree_bind (mk s None a) (λ x. b.as_noted tables k s g (Unary i op a) (λ u. e.Unary u op x)) (fk s None a) (λ x. f'.pure (e.Unary (note s g (Unary i op a)) op x))
         (tree s None a hs (first (bad s Free a) (un s g (Unary i op a) i) h)) (λ x. as_noted_is s g (Unary i op a) (λ u. e.Unary u op x) h)
     tree s g (Binary i op a a') hs h =
         let O : Option Failure = un s g (Binary i op a a') i in
         let T : TypedTree → TypedTree → f'.Making TypedTree = λ x y. f'.pure (e.Binary (note s g (Binary i op a a')) op x y) in
-        agree_bind (mk s None a) (λ x. mk s None a' >=> λ y. b.as_noted tables names k numbers s g (Binary i op a a') (λ u. e.Binary u op x y)) (fk s None a) (λ x. onward (fk s None a') (T x))
+        agree_bind (mk s None a) (λ x. mk s None a' >=> λ y. b.as_noted tables k s g (Binary i op a a') (λ u. e.Binary u op x y)) (fk s None a) (λ x. onward (fk s None a') (T x))
         (tree s None a hs (first (bad s Free a) (bad s Free a' then O) h))
-        (λ x. agree_bind (mk s None a') (λ y. b.as_noted tables names k numbers s g (Binary i op a a') (λ u. e.Binary u op x y)) (fk s None a') (T x)
+        (λ x. agree_bind (mk s None a') (λ y. b.as_noted tables k s g (Binary i op a a') (λ u. e.Binary u op x y)) (fk s None a') (T x)
         (tree s None a' hs (first (bad s Free a') O (last (bad s Free a) (bad s Free a' then O) h))) (λ y. as_noted_is s g (Binary i op a a') (λ u. e.Binary u op x y) h))
     tree s g (Both i a a') hs h =
         let O : Option Failure = un s g (Both i a a') i in
@@ -392,7 +392,7 @@ module _ (tables : Tables) (names : Naming) (k : Known) (numbers : Numbering) wh
         let B : Option Failure = bad s Free a' then O in
         let C : Option Failure = bad s Free a then B in
         let T : TypedTree → TypedTree → TypedTree → f'.Making TypedTree = λ z x y. f'.pure (e.Choice (note s g (Choice i q a a')) z x y) in
-        let R : TypedTree → TypedTree → TypedTree → Making TypedTree = λ z x y. b.as_noted tables names k numbers s g (Choice i q a a') (λ u. e.Choice u z x y) in
+        let R : TypedTree → TypedTree → TypedTree → Making TypedTree = λ z x y. b.as_noted tables k s g (Choice i q a a') (λ u. e.Choice u z x y) in
         agree_bind (mk s None q) (λ z. mk s None a >=> λ x. mk s None a' >=> R z x) (fk s None q) (λ z. onward (fk s None a) (λ x. onward (fk s None a') (T z x))) (tree s None q hs (first (bad s Free q) C h))
         (λ z. agree_bind (mk s None a) (λ x. mk s None a' >=> R z x) (fk s None a) (λ x. onward (fk s None a') (T z x)) (tree s None a hs (first (bad s Free a) B (last (bad s Free q) C h)))
         (λ x. agree_bind (mk s None a') (R z x) (fk s None a') (T z x) (tree s None a' hs (first (bad s Free a') O (last (bad s Free a) B (last (bad s Free q) C h))))
@@ -402,7 +402,7 @@ module _ (tables : Tables) (names : Naming) (k : Known) (numbers : Numbering) wh
         let hx : bad s Free x ≡ None = first (bad s Free x) (bad s Given r then O) h in
         let v : StaticType = free s x in
         let T : TypedTree → TypedTree → f'.Making TypedTree = λ y z. f'.pure (e.Set (note s g (Set i op x r)) op y z) in
-        let R : TypedTree → TypedTree → Making TypedTree = λ y z. b.as_noted tables names k numbers s g (Set i op x r) (λ u. e.Set u op y z) in
+        let R : TypedTree → TypedTree → Making TypedTree = λ y z. b.as_noted tables k s g (Set i op x r) (λ u. e.Set u op y z) in
         agree_looked (ty s Free x) v (λ w. mk s None x >=> λ y. mk s (Some w) r >=> R y) (onward (fk s None x) (λ y. onward (fk s (Some v) r) (T y))) (free_there s x hx)
         (agree_bind (mk s None x) (λ y. mk s (Some v) r >=> R y) (fk s None x) (λ y. onward (fk s (Some v) r) (T y)) (tree s None x hs hx)
         (λ y. agree_bind (mk s (Some v) r) (R y) (fk s (Some v) r) (T y) (tree s (Some v) r hs (first (bad s Given r) O (last (bad s Free x) (bad s Given r then O) h)))
@@ -415,9 +415,9 @@ module _ (tables : Tables) (names : Naming) (k : Known) (numbers : Numbering) wh
     tree s g (Item i a j) hs h =
         let O : Option Failure = un s g (Item i a j) i in
         let T : TypedTree → TypedTree → f'.Making TypedTree = λ x y. f'.pure (e.Item (note s g (Item i a j)) x y) in
-        agree_bind (mk s None a) (λ x. mk s None j >=> λ y. b.as_noted tables names k numbers s g (Item i a j) (λ u. e.Item u x y)) (fk s None a) (λ x. onward (fk s None j) (T x))
+        agree_bind (mk s None a) (λ x. mk s None j >=> λ y. b.as_noted tables k s g (Item i a j) (λ u. e.Item u x y)) (fk s None a) (λ x. onward (fk s None j) (T x))
         (tree s None a hs (first (bad s Free a) (bad s Free j then O) h))
-        (λ x. agree_bind (mk s None j) (λ y. b.as_noted tables names k numbers s g (Item i a j) (λ u. e.Item u x y)) (fk s None j) (T x)
+        (λ x. agree_bind (mk s None j) (λ y. b.as_noted tables k s g (Item i a j) (λ u. e.Item u x y)) (fk s None j) (T x)
         (tree s None j hs (first (bad s Free j) O (last (bad s Free a) (bad s Free j then O) h))) (λ y. as_noted_is s g (Item i a j) (λ u. e.Item u x y) h))
     tree s g (Items i none) hs h = as_noted_is s g (Items i none) (λ u. e.Items u e.none) h
     tree s g (Items i (more a rest)) hs h =
@@ -426,7 +426,7 @@ module _ (tables : Tables) (names : Naming) (k : Known) (numbers : Numbering) wh
         let ha : bad s Free a ≡ None = first (bad s Free a) (R0 then O) h in
         let v : StaticType = free s a in
         let T : TypedTree → TypedTrees → f'.Making TypedTree = λ x xs. f'.pure (e.Items (note s g (Items i (more a rest))) (e.more x xs)) in
-        let R : TypedTree → TypedTrees → Making TypedTree = λ x xs. b.as_noted tables names k numbers s g (Items i (more a rest)) (λ u. e.Items u (e.more x xs)) in
+        let R : TypedTree → TypedTrees → Making TypedTree = λ x xs. b.as_noted tables k s g (Items i (more a rest)) (λ u. e.Items u (e.more x xs)) in
         agree_looked (ty s Free a) v (λ w. mk s None a >=> λ x. b.made_items tables names k numbers s w rest >=> R x) (onward (fk s None a) (λ x. onward (f.made_items tables names k numbers s v rest) (T x))) (free_there s a ha)
         (agree_bind (mk s None a) (λ x. b.made_items tables names k numbers s v rest >=> R x) (fk s None a) (λ x. onward (f.made_items tables names k numbers s v rest) (T x)) (tree s None a hs ha)
         (λ x. agree_bind (b.made_items tables names k numbers s v rest) (R x) (f.made_items tables names k numbers s v rest) (T x) (items s v rest hs (first R0 O (last (bad s Free a) (R0 then O) h)))
@@ -436,7 +436,7 @@ module _ (tables : Tables) (names : Naming) (k : Known) (numbers : Numbering) wh
         (λ takes us ha ts go. given s takes us args hs ha ts go) (λ ps ha go. asked s ps args hs ha go)
     tree s g (SuperCall i None args) hs h = absurd (node_whole tables k s.place names (kind_role g) (SuperCall i None args) (read_so g) h)
     tree s g (SuperCall i (Some m) args) hs h =
-        let o : Option ℕ = super_method tables k s.place.this m in
+        let o : Option ℕ = super_method k s.place.this m in
         let (d, is, go) = node_whole tables k s.place names (kind_role g) (SuperCall i (Some m) args) (read_so g) h in
         super_so s g i m args o (noted_there s g (SuperCall i (Some m) args) h) h d is go
         (first (failures tables names k s.place [] args) (un s g (SuperCall i (Some m) args) i) h) (λ takes us ha ts go'. given s takes us args hs ha ts go')
@@ -449,7 +449,7 @@ module _ (tables : Tables) (names : Naming) (k : Known) (numbers : Numbering) wh
     call : (s : Site) (g : Option StaticType) (i : ℕ) (l : Tree) (args : Trees) (o : Option BoardCall) → HasSpots s → bad s (kind_role g) (Call i l args) ≡ None → of_call tables names k s.place i l args o ≡ None → CallWhole s l args o → GivenSo s args → AskedSo s args
         → Agree (call_made s g i l args o) (call_filled s g i l args o)
     call s g i l args (Some o) hs h h' w given_so asked_so =
-        agree_bind (b.made_asked tables names k numbers s (row_of o).takes args) (λ xs. b.as_noted tables names k numbers s g (Call i l args) (λ u. e.Call u (board_target o (row_of o).action) xs))
+        agree_bind (b.made_asked tables names k numbers s (row_of o).takes args) (λ xs. b.as_noted tables k s g (Call i l args) (λ u. e.Call u (board_target o (row_of o).action) xs))
         (f.made_asked tables names k numbers s (row_of o).takes args) (λ xs. f'.pure (e.Call (note s g (Call i l args)) (board_target o (row_of o).action) xs))
         (asked_so (row_of o).takes (first (failures tables names k s.place (row_of o).takes args) _ h') w)
         (λ xs. as_noted_is s g (Call i l args) (λ u. e.Call u (board_target o (row_of o).action) xs) h)
@@ -457,11 +457,11 @@ module _ (tables : Tables) (names : Naming) (k : Known) (numbers : Numbering) wh
         let l : Found = finds tables k s.place x in
         let u : ValueType = note s g (Call i (Name j x) args) in
         let ha = first (failures tables names k s.place [] args) _ (last (bad s Called (Name j x)) _ h') in
-        agree_looked (b.noted tables names k numbers s g (Call i (Name j x) args)) u (λ y. b.made_call tables names k numbers s y (Name j x) (λ takes. b.made_given tables names k numbers s takes args)) (call_filled s g i (Name j x) args None) (noted_there s g (Call i (Name j x) args) h)
+        agree_looked (b.noted tables k s g (Call i (Name j x) args)) u (λ y. b.made_call tables names k numbers s y (Name j x) (λ takes. b.made_given tables names k numbers s takes args)) (call_filled s g i (Name j x) args None) (noted_there s g (Call i (Name j x) args) h)
         (function_so s u args l d called callee_is go ha given_so)
     call s g i (Member j a m) args None hs h h' (called, d, callee_is, go) given_so asked_so =
         let u : ValueType = note s g (Call i (Member j a m) args) in
-        agree_looked (b.noted tables names k numbers s g (Call i (Member j a m) args)) u (λ y. b.made_call tables names k numbers s y (Member j a m) (λ takes. b.made_given tables names k numbers s takes args)) (call_filled s g i (Member j a m) args None) (noted_there s g (Call i (Member j a m) args) h)
+        agree_looked (b.noted tables k s g (Call i (Member j a m) args)) u (λ y. b.made_call tables names k numbers s y (Member j a m) (λ takes. b.made_given tables names k numbers s takes args)) (call_filled s g i (Member j a m) args None) (noted_there s g (Call i (Member j a m) args) h)
         (called_so s u j a m args d (first (bad s Called (Member j a m)) _ h') called callee_is go (first (failures tables names k s.place [] args) _ (last (bad s Called (Member j a m)) _ h')) (λ o. tree s None a hs o) given_so)
     call s g i (Num j n) args None hs h h' w given_so asked_so = absurd w.0
     call s g i (Text j n) args None hs h h' w given_so asked_so = absurd w.0
@@ -518,7 +518,7 @@ module _ (tables : Tables) (names : Naming) (k : Known) (numbers : Numbering) wh
         (tree s (Some (board_kind v)) a hs (first (bad s Given a) (failures tables names k s.place ps rest) h)) (asked s ps rest hs (last (bad s Given a) (failures tables names k s.place ps rest) h) rest_so)
     asked s (board.Drawing ∷ ps) (more a rest) hs h q =
         let (draws_so, rest_so) = both_true (is_drawing tables a) (are_given tables k s.place ps rest) q in
-        agree2 (λ x xs. e.more x xs) (b.drawing tables names k a) (f'.pure (f.drawing tables names k numbers a)) (b.made_asked tables names k numbers s ps rest) (f.made_asked tables names k numbers s ps rest)
+        agree2 (λ x xs. e.more x xs) (b.drawing tables a) (f'.pure (f.drawing tables names k numbers a)) (b.made_asked tables names k numbers s ps rest) (f.made_asked tables names k numbers s ps rest)
         (drawing s a draws_so) (asked s ps rest hs (last (bad s Given a) (failures tables names k s.place ps rest) h) rest_so)
     asked s (board.Handler ∷ ps) (more a rest) hs h q =
         let (serves_so, rest_so) = both_true (is_routine tables k s.place a) (are_given tables k s.place ps rest) q in
@@ -562,7 +562,7 @@ module _ (tables : Tables) (names : Naming) (k : Known) (numbers : Numbering) wh
     local s (Declare i x shape a) hs h =
         let A : Option Failure = written_failure names i shape in
         let B : Option Failure = initial_failure tables names k s.place shape a in
-        let C : Option Failure = own_local tables names k s.place x i then own_bound tables names k s.place shape a i in
+        let C : Option Failure = own_local tables s.place x i then own_bound tables names k s.place shape a i in
         let o : Option StaticType = bound tables names k s.place shape a in
         let bound_so : IsSome o = bound_whole tables k s.place names i x shape a h in
         let v : StaticType = unwrap_or o nothing in
@@ -586,13 +586,13 @@ module _ (tables : Tables) (names : Naming) (k : Known) (numbers : Numbering) wh
     statement s (IfOnly i test a) hs h =
         let A : Option Failure = bad s Free test in
         let B : Option Failure = wrong (in_block s) a in
-        let C : Option Failure = own_test tables names k s.place test i in
+        let C : Option Failure = own_test tables k s.place test i in
         agree2 (λ q x. e.IfOnly q x) (mk s None test) (fk s None test) (mo (in_block s) a) (fo (in_block s) a) (tree s None test hs (first A (B then C) h)) (statement (in_block s) a hs (first B C (last A (B then C) h)))
     statement s (IfElse i test a a') hs h =
         let A : Option Failure = bad s Free test in
         let B : Option Failure = wrong (in_block s) a in
         let C : Option Failure = wrong (in_block s) a' in
-        let D : Option Failure = own_test tables names k s.place test i in
+        let D : Option Failure = own_test tables k s.place test i in
         agree_bind (mk s None test) (λ q. mo (in_block s) a >=> λ x. mo (in_block s) a' >=> λ y. pure (e.IfElse q x y)) (fk s None test) (λ q. onward (fo (in_block s) a) (λ x. onward (fo (in_block s) a') (λ y. f'.pure (e.IfElse q x y))))
         (tree s None test hs (first A (B then C then D) h))
         (λ q. agree2 (λ x y. e.IfElse q x y) (mo (in_block s) a) (fo (in_block s) a) (mo (in_block s) a') (fo (in_block s) a')
@@ -600,19 +600,19 @@ module _ (tables : Tables) (names : Naming) (k : Known) (numbers : Numbering) wh
     statement s (While i test a) hs h =
         let A : Option Failure = bad s Free test in
         let B : Option Failure = wrong (in_block s) a in
-        let C : Option Failure = own_test tables names k s.place test i in
+        let C : Option Failure = own_test tables k s.place test i in
         agree2 (λ q x. e.While q x) (mk s None test) (fk s None test) (mo (in_block s) a) (fo (in_block s) a) (tree s None test hs (first A (B then C) h)) (statement (in_block s) a hs (first B C (last A (B then C) h)))
     statement s (DoWhile i a test) hs h =
         let A : Option Failure = wrong (in_block s) a in
         let B : Option Failure = bad s Free test in
-        let C : Option Failure = own_test tables names k s.place test i in
+        let C : Option Failure = own_test tables k s.place test i in
         agree2 (λ x q. e.DoWhile x q) (mo (in_block s) a) (fo (in_block s) a) (mk s None test) (fk s None test) (statement (in_block s) a hs (first A (B then C) h)) (tree s None test hs (first B C (last A (B then C) h)))
     statement s (For i omitted test step a) hs h = λ m n.
         let s1 : Site = in_block s in
         let A : Option Failure = optional_failure tables names k s1.place test in
         let B : Option Failure = optional_failure tables names k s1.place step in
         let C : Option Failure = wrong (in_block s1) a in
-        let D : Option Failure = test_failure tables names k s1.place test i in
+        let D : Option Failure = test_failure tables k s1.place test i in
         agree_bind (pure e.omitted) (λ l. mv s1 test >=> λ q. mv s1 step >=> λ y. mo (in_block s1) a >=> λ x. pure (e.For l q y x)) (f'.pure e.omitted) (λ l. onward (fv s1 test) (λ q. onward (fv s1 step) (λ y. onward (fo (in_block s1) a) (λ x. f'.pure (e.For l q y x)))))
         (λ m' n'. refl)
         (λ l. agree_bind (mv s1 test) (λ q. mv s1 step >=> λ y. mo (in_block s1) a >=> λ x. pure (e.For l q y x)) (fv s1 test) (λ q. onward (fv s1 step) (λ y. onward (fo (in_block s1) a) (λ x. f'.pure (e.For l q y x))))
@@ -626,7 +626,7 @@ module _ (tables : Tables) (names : Naming) (k : Known) (numbers : Numbering) wh
         let A : Option Failure = optional_failure tables names k s1.place test in
         let B : Option Failure = optional_failure tables names k s1.place step in
         let C : Option Failure = wrong (in_block s1) a in
-        let D : Option Failure = test_failure tables names k s1.place test i in
+        let D : Option Failure = test_failure tables k s1.place test i in
         let h' : (A then B then C then D) ≡ None = last Z (A then B then C then D) h in
         agree_bind (mo s0 d >=> λ x. pure (e.written x)) (λ l. mv s1 test >=> λ q. mv s1 step >=> λ y. mo (in_block s1) a >=> λ x. pure (e.For l q y x)) (onward (fo s0 d) (λ x. f'.pure (e.written x))) (λ l. onward (fv s1 test) (λ q. onward (fv s1 step) (λ y. onward (fo (in_block s1) a) (λ x. f'.pure (e.For l q y x)))))
         (agree1 (λ x. e.written x) (mo s0 d) (fo s0 d) (statement s0 d hs (first Z (A then B then C then D) h)))
@@ -634,10 +634,10 @@ module _ (tables : Tables) (names : Naming) (k : Known) (numbers : Numbering) wh
         (optional s1 test hs1 (first A (B then C then D) h'))
         (λ q. agree2 (λ y x. e.For l q y x) (mv s1 step) (fv s1 step) (mo (in_block s1) a) (fo (in_block s1) a) (optional s1 step hs1 (first B (C then D) (last A (B then C then D) h'))) (statement (in_block s1) a hs1 (first C D (last B (C then D) (last A (B then C then D) h')))))) m n
     statement s (ForOf i fixed x list a) hs h = λ m n.
-        let o : Option StaticType = items_of tables names k (ty s Free list) in
+        let o : Option StaticType = items_of (ty s Free list) in
         let some_so : IsSome o = loop_whole tables k s.place names i x fixed list a h in
         let u : ValueType = value_type (unwrap_or o nothing) in
-        let s1 : Site = record { place = inner (looped_in tables names k s.place fixed x list); spots = s.spots ++ Local m ∷ [] } in
+        let s1 : Site = record { place = inner (looped_in tables k s.place fixed x list); spots = s.spots ++ Local m ∷ [] } in
         let hs1 : HasSpots s1 = one_more s.spots s.place.locals _ _ hs in
         let A : Option Failure = bad s Free list in
         let B : Option Failure = wrong s1 a in

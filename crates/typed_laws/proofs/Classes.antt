@@ -28,9 +28,10 @@ use Rattle.sts_scope.specs.Rules.{kind_at, takes_at, maker_takes_of, class_part,
 use Rattle.type_derive.specs.Typing.{method_of}
 use Rattle.type_derive.specs.Passes.{same_kinds, same_result, agrees}
 use Rattle.sts_scope.specs.Numbers.{Numbering, is_method, is_listed, own_names, names_from, field_names, slot_names, place_among, global_number, routine_number, maker_number}
-use Rattle.type_derive.specs.inner.FilledPrograms.{class_result, member_kind, member_routine, class_entry, class_entries, global_types}
-use Rattle.typed_laws.specs.Stands.{IsProper, EachProper, Stands}
-use Rattle.type_derive.specs.Libraries.{taken}
+use Rattle.type_derive.specs.inner.Filled.{class_result}
+use Rattle.typed_laws.specs.inner.FilledPrograms.{member_kind, member_routine, class_entry, class_entries, global_types}
+use Rattle.typed_laws.proofs.Stands.{IsProper, EachProper, Stands}
+use Rattle.typed_laws.specs.Libraries.{taken}
 use Rattle.typed_laws.proofs.OneNode.{both_true, same_types}
 use Rattle.typed_laws.proofs.Names.{some_is}
 use Rattle.typed_laws.proofs.Searching.{some_or_none, entry_get, get_within, get_left, get_map, map_get, at_place, get_listed}
@@ -47,7 +48,7 @@ module _ (tables : Tables) (k : Known) where
       some_or_none ((a : Entry) × (slice_get k.entries d ≡ Some a) × (a.sort ≡ s)) (slice_get k.entries d)
       (λ a q. (a, q, some_is a.sort s (sym (ap F q) ∙ h))) (λ q. let z : None ≡ Some s = sym (ap F q) ∙ h in cc)
 
-  pub method_of_is : (m : Option ℕ) (d : ℕ) → method_of tables k m ≡ Some d → (m ≡ Some d) × (sort_of k.entries d ≡ Some sort.Method)
+  pub method_of_is : (m : Option ℕ) (d : ℕ) → method_of k m ≡ Some d → (m ≡ Some d) × (sort_of k.entries d ≡ Some sort.Method)
   method_of_is None d h = cc
   method_of_is (Some d') d h =
       let F : Option DeclarationKind → Option ℕ = λ x. elim x [ None ↦ None | Some s ↦ elim s [ sort.Method ↦ Some d' | _ ↦ None ] ] in

@@ -35,15 +35,15 @@ use Rattle.type_derive.specs.Returns.{bound}
 use Rattle.type_derive.specs.Derived.{Source, member_sources, follows, declared_source, routine_source}
 use Rattle.type_derive.specs.Nodes.{failures, statements_failure, initial_failure, own_bound}
 use Rattle.type_derive.specs.Passes.{outside_failure, body_failure, made_failure, own_super_call, constructor_failure, members_nodes}
-use Rattle.type_derive.specs.Formed.{AreFormedMembers, AreFormedIn}
+use Rattle.typed_laws.proofs.FormedParts.{AreFormedMembers, AreFormedIn}
 use Rattle.sts_scope.specs.Handlers.{handlers_of, routine_handlers, declared_handlers, statements_handlers, members_routines, unwritten}
 use Rattle.type_derive.specs.inner.Filling.{pure, ◌>=>◌}
 use Rattle.sts_scope.specs.Numbers.{Numbering, field_names, slot_names, place_among, member_numbers, maker_number, maker_from, routine_number}
 use Rattle.type_derive.specs.Built.{Site}
-use Rattle.type_derive.specs.inner.Filled.{made_given, made_statements}
-use Rattle.type_derive.specs.Programs.{passed_on, ◌before◌}
-use Rattle.type_derive.specs.inner.FilledPrograms.{site, method_made, initial_made, set_field, initials, super_called, passes_on, made_statements_of, constructor_made, constructor_unwritten, unwritten_made, members_made, class_made, class_entry}
-use Rattle.typed_laws.specs.Stands.{IsProper}
+use Rattle.type_derive.specs.inner.Filled.{made_given, made_statements, site, method_made}
+use Rattle.typed_laws.specs.Programs.{passed_on, ◌before◌, super_called, passes_on, constructor_unwritten, unwritten_made}
+use Rattle.typed_laws.specs.inner.FilledPrograms.{initial_made, set_field, initials, made_statements_of, constructor_made, members_made, class_made, class_entry}
+use Rattle.typed_laws.proofs.Stands.{IsProper}
 use Rattle.typed_laws.proofs.Typed.{last, first, unless_true}
 use Rattle.typed_laws.proofs.Names.{some_is}
 use Rattle.typed_laws.proofs.Makings.{Placed, placed_left, Inners, kept_all, good_pure, good_bind, good_free, good_as}
@@ -232,7 +232,7 @@ module _ (tables : Tables) (names : Naming) (k : Known) (numbers : Numbering) (P
           ∙ ap (λ (x : Bool). Some (if x then t.Nothing else r.gives)) h in
           ((λ q. (t.Nothing, answer_is)), (λ q v same. let z : nothing ≡ v = some_is nothing v same in (answer_is ∙ ap (λ (y : StaticType). Some (value_type y)) z, subst IsProper z refl)))
 
-      super_types : (ts : Option (List StaticType)) (takes : List StaticType) (l : ℕ) → own_super_call tables names k ts takes l ≡ None → (us : List StaticType) × (ts ≡ Some us) × (all_go k.classes us takes ≡ true)
+      super_types : (ts : Option (List StaticType)) (takes : List StaticType) (l : ℕ) → own_super_call k ts takes l ≡ None → (us : List StaticType) × (ts ≡ Some us) × (all_go k.classes us takes ≡ true)
       super_types None takes l h = cc
       super_types (Some us) takes l h = (us, refl, unless_true (all_go k.classes us takes) Mismatch l h)
 
@@ -258,7 +258,7 @@ module _ (tables : Tables) (names : Naming) (k : Known) (numbers : Numbering) (P
           let base_case : G (also (Plain j (SuperCall l None args)) rest) = λ f1 a1 h1.
           let takes : List StaticType = maker_takes_of k.classes b in
           let A = failures tables names k s.place [] args in
-          let B = own_super_call tables names k (types_of tables k s.place args) takes l in
+          let B = own_super_call k (types_of tables k s.place args) takes l in
           let C = statements_failure tables names k s.place rest in
           let hA : A ≡ None = first A (B then C) h1 in
           let hB : B ≡ None = first B C (last A (B then C) h1) in
@@ -271,11 +271,11 @@ module _ (tables : Tables) (names : Naming) (k : Known) (numbers : Numbering) (P
           let R : TypedStatements → Type 0 = λ ys. IsBodyOf P (Some b) S ys in
           good_as P S R R w'.all_declared [] (H + (J + 0)) (H + J) 0 n (made_statements_of tables names k numbers s (Some b) inits (also (Plain j (SuperCall l None args)) rest) 0 n)
           (good_free P S (AreGiven P S [] (parameters_of (value_types takes))) R w'.all_declared [] H (J + 0) 0 n (made_given tables names k numbers s takes args)
-          (λ ys. made_statements tables names k numbers s rest >=> λ xs. pure (e.also (super_called tables names k numbers b ys) (inits before xs)))
+          (λ ys. made_statements tables names k numbers s rest >=> λ xs. pure (e.also (super_called numbers b ys) (inits before xs)))
           (given tables names k numbers P (st tables names k numbers P made) S [] s takes us args at f1.0 (made.makers_proper b) hA types_so go)
-          (λ ys gs o1. good_bind P S (λ xs. AreSound P S xs false []) w'.all_declared R w'.all_declared [] J 0 0 o1 (made_statements tables names k numbers s rest) (λ xs. pure (e.also (super_called tables names k numbers b ys) (inits before xs)))
+          (λ ys gs o1. good_bind P S (λ xs. AreSound P S xs false []) w'.all_declared R w'.all_declared [] J 0 0 o1 (made_statements tables names k numbers s rest) (λ xs. pure (e.also (super_called numbers b ys) (inits before xs)))
           (statements tables names k numbers P (st tables names k numbers P made) S [] s false (Some nothing) rest 0 o1 at f1.1 gives hC (a1.0, a1.1))
-          (λ xs q i2 o2. good_pure P S R w'.all_declared (w'.all_declared xs) i2 o2 (e.also (super_called tables names k numbers b ys) (inits before xs))
+          (λ xs q i2 o2. good_pure P S R w'.all_declared (w'.all_declared xs) i2 o2 (e.also (super_called numbers b ys) (inits before xs))
           (class_entry tables names k numbers b, value_types takes, class_at tables names k numbers P made b near_b, refl, (r, b, has, params, below_here tables names k numbers P made b, result), gs, refl, before_sound S inits xs inits_so q)
           (before_declared S inits xs inits_so)))) (λ l. l) (omega arith) in
           subst G (sym is) base_case formed answers h
@@ -290,7 +290,7 @@ module _ (tables : Tables) (names : Naming) (k : Known) (numbers : Numbering) (P
           (here, inl refl, subst (λ (i : ℕ). AreGiven P S [] (parameters_of (value_types us)) (passed_on i us)) long (passed_typed S (before' ++ value_type u ∷ []) us h'))
 
       unwritten_body : (S : Setting) (c : ℕ) (base : Option ℕ) (inits : List TypedStatement) (takes : List StaticType) → S.routine.params ≡ t.Object c ∷ value_types takes → ((b : ℕ) → base ≡ Some b → (b < length k.classes) × (maker_takes_of k.classes b ≡ takes)) → AllInits S inits
-          → IsBodyOf P base S ((passes_on tables names k numbers base takes ++ inits) before e.done) × (w'.all_declared ((passes_on tables names k numbers base takes ++ inits) before e.done) ≡ [])
+          → IsBodyOf P base S ((passes_on numbers base takes ++ inits) before e.done) × (w'.all_declared ((passes_on numbers base takes ++ inits) before e.done) ≡ [])
       unwritten_body S c None inits takes ps bases inits_so = (before_sound S inits e.done inits_so tt, before_declared S inits e.done inits_so)
       unwritten_body S c (Some b) inits takes ps bases inits_so =
           let (near_b, same) = bases b refl in
@@ -372,16 +372,16 @@ module _ (tables : Tables) (names : Naming) (k : Known) (numbers : Numbering) (P
           | inr (one_so, q, same) ↦ same n n ∙ sym (same n (n + unwritten members))
         ]
 
-        unwritten_sound : (n many : ℕ) (members : List ClassMember) (inits : List TypedStatement) → many ≡ unwritten members → Placed P n (unwritten_made tables names k numbers many c inits) → maker_number numbers c ≡ maker_from n n members
+        unwritten_sound : (n many : ℕ) (members : List ClassMember) (inits : List TypedStatement) → many ≡ unwritten members → Placed P n (unwritten_made k numbers many c inits) → maker_number numbers c ≡ maker_from n n members
             → ((b : ℕ) → base_of k.classes c ≡ Some b → unwritten members ≡ 1 → maker_takes_of k.classes b ≡ maker_takes_of k.classes c) → ((S : Setting) → HasThis P S (t.Object c) → AllInits S inits) → n + many ≤ P.main
-            → Each tables names k numbers P made n (unwritten_made tables names k numbers many c inits)
+            → Each tables names k numbers P made n (unwritten_made k numbers many c inits)
         unwritten_sound n zero members inits q placed maker_so passes inits_so near = tt
         unwritten_sound n (suc many) members inits q placed maker_so passes inits_so near = elim (is_written names members) [
           | inl (zero_so, takes, r) ↦ (let z : suc many ≡ 0 = q ∙ zero_so in absurd (omega arith))
           | inr (one_so, r, same) ↦ (let here : maker_number numbers c ≡ n = maker_so ∙ same n n in
               let (maker_true, base_so) = maker_facts c n near_c here in
               let takes : List StaticType = maker_takes_of k.classes c in
-              let rt : TypedRoutine = constructor_unwritten tables names k numbers c inits in
+              let rt : TypedRoutine = constructor_unwritten k numbers c inits in
               let S : Setting = setting P n rt in
               let this_so : HasThis P S (t.Object c) = (ap (λ (b : Bool). b || w'.is_method P.classes n) maker_true, refl) in
               let (body_so, declared_so) = unwritten_body S c (base_of k.classes c) inits takes refl (λ b qb. (base_near b qb, passes b qb one_so)) (inits_so S this_so) in
@@ -453,7 +453,7 @@ module _ (tables : Tables) (names : Naming) (k : Known) (numbers : Numbering) (P
             → Suffix marks n ((opened (unwritten members) c ++ member_marks c members) ++ tail) → n + (unwritten members + members_routines members) ≤ P.main → Each tables names k numbers P made n (class_made tables names k numbers c n d members)
         class_sound n d d' members tail walk hd maker_so placed passes s near =
             let inits = initials tables names k numbers c (n + unwritten members) d members in
-            let unmade = unwritten_made tables names k numbers (unwritten members) c inits in
+            let unmade = unwritten_made k numbers (unwritten members) c inits in
             let later = members_made tables names k numbers c inits (n + unwritten members) d members in
             let inits_so : (S : Setting) → HasThis P S (t.Object c) → AllInits S inits = λ S this_so. inits_typed S c (n + unwritten members) d inits members this_so walk in
             let s1 : Suffix marks n (opened (unwritten members) c ++ (member_marks c members ++ tail)) = subst (λ (xs : List (Option ℕ)). Suffix marks n xs) (append_assoc (opened (unwritten members) c) (member_marks c members) tail) s in

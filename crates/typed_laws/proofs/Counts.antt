@@ -180,7 +180,7 @@ module _ (tables : Tables) (names : Naming) (k : Known) (numbers : Numbering) wh
   call_made s n f args (Some call) = made_asked tables names k numbers s (row_of call).takes args >=> λ xs. pure (e.Call n (board_target call (row_of call).action) xs)
   call_made s n f args None = made_call tables names k numbers s n f (made_given tables names k numbers s (call_takes tables names k numbers s f) args)
 
-  no_callee_of : (d : Option Callee) (ts : Option (List StaticType)) → d ≡ None → Has (called tables k d ts) → ⊥
+  no_callee_of : (d : Option Callee) (ts : Option (List StaticType)) → d ≡ None → Has (called k d ts) → ⊥
   no_callee_of None ts q h = let z = h.is in cc
   no_callee_of (Some d) ts q h = cc
 
@@ -206,10 +206,10 @@ module _ (tables : Tables) (names : Naming) (k : Known) (numbers : Numbering) wh
   t_of s shape first' = value_type (kind_or_nothing tables names k numbers (bound tables names k s.place shape first'))
 
   abbrev u_of : Site → Tree → ValueType
-  u_of s list = value_type (kind_or_nothing tables names k numbers (items_of tables names k (type_of tables k s.place Free list)))
+  u_of s list = value_type (kind_or_nothing tables names k numbers (items_of (type_of tables k s.place Free list)))
 
   super_counts : (s : Site) (i : ℕ) (args : Trees) (n : ValueType) (code : Code) (d : Option ℕ)
-      → (failures tables names k s.place [] args then own (called tables k (d >>= λ j. Some (callee (takes_at k.entries j) (kind_at k j))) (types_of tables k s.place args)) code i) ≡ None
+      → (failures tables names k s.place [] args then own (called k (d >>= λ j. Some (callee (takes_at k.entries j) (kind_at k j))) (types_of tables k s.place args)) code i) ≡ None
       → ((takes : List StaticType) → failures tables names k s.place [] args ≡ None → Counts (handlers_of args) (made_given tables names k numbers s takes args))
       → Counts (handlers_of args) (elim d [ None ↦ pure amiss | Some j ↦ made_given tables names k numbers s (takes_at k.entries j) args >=> λ xs. pure (e.SuperCall n (routine_number numbers j) xs) ])
   super_counts s i args n code None h given = let z : failure_at code i ≡ None = last (failures tables names k s.place [] args) (failure_at code i) h in cc
@@ -261,7 +261,7 @@ module _ (tables : Tables) (names : Naming) (k : Known) (numbers : Numbering) wh
         (λ takes h'. given_counts s takes args h') (λ ps h' q. asked_counts s ps args h' q)
     tree_counts s r g (SuperCall i None args) read h = let z : failure_at Mismatch i ≡ None = last (failures tables names k s.place [] args) (failure_at Mismatch i) h in cc
     tree_counts s r g (SuperCall i (Some m) args) read h =
-        super_counts s i args (noted tables names k numbers s g (SuperCall i (Some m) args)) (cause_of tables k s.place r (SuperCall i (Some m) args)) (super_method tables k s.place.this m) h (λ takes h'. given_counts s takes args h')
+        super_counts s i args (noted tables names k numbers s g (SuperCall i (Some m) args)) (cause_of tables k s.place r (SuperCall i (Some m) args)) (super_method k s.place.this m) h (λ takes h'. given_counts s takes args h')
     tree_counts s r g (Make i x args) read h =
         let class = class_found tables names k numbers (finds tables k s.place x) in
         counts_one (handlers_of args) (made_given tables names k numbers s (maker_takes_of k.classes class) args) (λ xs. e.Make (t.Object class) class xs) (given_counts s (maker_takes_of k.classes class) args (first (failures tables names k s.place [] args) _ h))
@@ -382,7 +382,7 @@ module _ (tables : Tables) (names : Naming) (k : Known) (numbers : Numbering) wh
         let a : Declaration = Declare i x shape first' in
         let here : Option Failure = declaration_failure tables names k s.place a in
         let later : Option Failure = declarations_failure tables names k (after tables names k s.place (Let 0 fixed (next a ended))) fixed rest in
-        let (hw, hi, hl, hb) = parts3 (written_failure names i shape) (initial_failure tables names k s.place shape first') (own_local tables names k s.place x i) (own_bound tables names k s.place shape first' i) (first here later h) in
+        let (hw, hi, hl, hb) = parts3 (written_failure names i shape) (initial_failure tables names k s.place shape first') (own_local tables s.place x i) (own_bound tables names k s.place shape first' i) (first here later h) in
         let s1 : Site = behind_statement tables names k numbers m s (Let 0 fixed (next a ended)) in
         counts_two (optional_handlers first') (declarations_handlers rest) (made_local tables names k numbers s a) (made_locals tables names k numbers s1 fixed rest) (λ d ds. d ∷ ds)
         (counts_as (optional_handlers first' + 0) (optional_handlers first') (made_local tables names k numbers s a)
@@ -415,8 +415,8 @@ module _ (tables : Tables) (names : Naming) (k : Known) (numbers : Numbering) wh
         let B : Option Failure = optional_failure tables names k s1.place test in
         let C : Option Failure = optional_failure tables names k s1.place step in
         let D : Option Failure = statement_failure tables names k (inner s1.place) a in
-        let E : Option Failure = test_failure tables names k s1.place test i in
-        let h' : (A then B then C then D then E) ≡ None = subst (λ (p : NameScope). (A then optional_failure tables names k p test then optional_failure tables names k p step then statement_failure tables names k (inner p) a then test_failure tables names k p test i) ≡ None) (first_place m s0 one) h in
+        let E : Option Failure = test_failure tables k s1.place test i in
+        let h' : (A then B then C then D then E) ≡ None = subst (λ (p : NameScope). (A then optional_failure tables names k p test then optional_failure tables names k p step then statement_failure tables names k (inner p) a then test_failure tables k p test i) ≡ None) (first_place m s0 one) h in
         let (hA, hB, hC, hD, hE) = parts4 A B C D E h' in
         let F0 : ℕ = first_handlers one in
         let T0 : ℕ = optional_handlers test in
@@ -429,7 +429,7 @@ module _ (tables : Tables) (names : Naming) (k : Known) (numbers : Numbering) wh
         (λ l. counts_bind T0 (U0 + J) (made_optional tables names k numbers s1 test) (λ q. made_optional tables names k numbers s1 step >=> λ y. made_statement tables names k numbers (in_block s1) a >=> λ x. pure (e.For l q y x)) (optional_counts s1 test hB)
         (λ q. counts_two U0 J (made_optional tables names k numbers s1 step) (made_statement tables names k numbers (in_block s1) a) (λ y x. e.For l q y x) (optional_counts s1 step hC) (statement_counts (in_block s1) a hD)))) (omega arith) m n
     statement_counts s (ForOf i fixed x list a) h = λ m n.
-        let p1 : NameScope = looped tables names k s.place fixed x list in
+        let p1 : NameScope = looped tables k s.place fixed x list in
         let (hl, ha, hd, ho) = parts3 (bad s Free list) (statement_failure tables names k (inner p1) a) (unless (not (is_dollar tables.names x)) UnknownName i) (unless (is_list (type_of tables k s.place Free list)) Mismatch i) h in
         let u : ValueType = u_of s list in
         let s1 : Site = record { place = inner p1; spots = s.spots ++ Local m ∷ [] } in

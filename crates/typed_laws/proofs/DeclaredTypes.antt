@@ -96,10 +96,10 @@ module _ (names : Naming) (k : Known) (tables : Tables) where
         gives_none (inner p) a g (first A (T then U) h)
     gives_none p (For i one test step a) g h =
         let q : NameScope = after_first tables names k (inner p) one in
-        let O = first_failure tables names k (inner p) one in let T = optional_failure tables names k q test in let Z = optional_failure tables names k q step in let A = statement_failure tables names k (inner q) a in let U = test_failure tables names k q test i in
+        let O = first_failure tables names k (inner p) one in let T = optional_failure tables names k q test in let Z = optional_failure tables names k q step in let A = statement_failure tables names k (inner q) a in let U = test_failure tables k q test i in
         gives_none (inner q) a (gives_first_place (inner p) one ∙ g) (first A U (last Z (A then U) (last T (Z then A then U) (last O (T then Z then A then U) h))))
     gives_none p (ForOf i fixed x list a) g h =
-        let q : NameScope = looped tables names k p fixed x list in
+        let q : NameScope = looped tables k p fixed x list in
         let T = failure tables names k p Free list in let A = statement_failure tables names k (inner q) a in let D = unless (not (is_dollar tables.names x)) UnknownName i in let U = unless (is_list (type_of tables k p Free list)) Mismatch i in
         gives_none (inner q) a g (first A (D then U) (last T (A then D then U) h))
     gives_none p (Let i fixed each) g h = refl
@@ -131,7 +131,7 @@ module _ (names : Naming) (k : Known) (tables : Tables) where
     returns_none p (While i test a) h = returns_none (inner p) a h
     returns_none p (DoWhile i a test) h = returns_none (inner p) a h
     returns_none p (For i one test step a) h = returns_none (inner (after_first tables names k (inner p) one)) a h
-    returns_none p (ForOf i fixed x list a) h = returns_none (inner (looped tables names k p fixed x list)) a h
+    returns_none p (ForOf i fixed x list a) h = returns_none (inner (looped tables k p fixed x list)) a h
     returns_none p (Let i fixed each) h = refl
     returns_none p (Break i) h = refl
     returns_none p (Continue i) h = refl

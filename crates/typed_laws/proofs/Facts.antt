@@ -21,7 +21,7 @@ use Rattle.sts_scope.specs.Lookup.{is_second, inherited, inherits_field, base_of
 use Rattle.sts_scope.specs.Rules.{takes_at, maker_takes_of}
 use Rattle.sts_scope.specs.Rules as rules
 use Rattle.type_derive.specs.Passes.{agrees, overrides_failure, item_overrides, all_overrides}
-use Rattle.typed_laws.specs.Stands.{IsProper, EachProper}
+use Rattle.typed_laws.proofs.Stands.{IsProper, EachProper}
 use Rattle.typed_laws.proofs.OneNode.{not_true}
 use Rattle.typed_laws.proofs.Typed.{last, first, unless_true}
 use Rattle.typed_laws.proofs.Names.{some_is}

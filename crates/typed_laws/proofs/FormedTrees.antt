@@ -11,7 +11,7 @@ use Rattle.sts_grammar.specs.Source.{Source, kind}
 use Rattle.sts_grammar.specs.Operators.{infix_level, bump_by}
 use Rattle.sts_grammar.specs.Operands.{Stands, IsWrapped, IsOperand, IsRoutine}
 use Rattle.sts_grammar.specs.Spells.{IsBare, AreListed, AreFurther, IsOptional, IsHandler, IsStatement, IsReturned, IsFirst, AreDeclared, IsDeclared, IsInitialised, InBlock}
-use Rattle.type_derive.specs.Formed.{TreeHas, TreesHave, OptionHas, BodyHas, DeclarationHas, DeclarationsHave, StatementHas, FirstHas, StatementsHave}
+use Rattle.typed_laws.specs.Formed.{TreeHas, TreesHave, OptionHas, BodyHas, DeclarationHas, DeclarationsHave, StatementHas, FirstHas, StatementsHave}
 
 -- what stands in parentheses stands in them somewhere
 unwrapped : (s : Source) (p : ℕ) (Held : Stands) (F : Type 0) → ((i j : ℕ) → Held i j → F) → (i j : ℕ) → IsWrapped s p Held i j → F

@@ -15,7 +15,7 @@ use Rattle.sts_grammar.specs.Source.{Source, kind_of}
 use Rattle.sts_grammar.specs.Texts.{source}
 use Rattle.sts_grammar.specs.Units.{IsMember, AreMembers, IsPart, AreParts, IsProgram}
 use Rattle.sts_grammar.specs.Spells.{InBlock}
-use Rattle.type_derive.specs.Formed.{Is32, Any, StatementsHave, MemberHas, MembersHave, ItemHas, ProgramHas, IsFormedProgram, TextsBelow}
+use Rattle.typed_laws.specs.Formed.{Is32, Any, StatementsHave, MemberHas, MembersHave, ItemHas, ProgramHas, IsFormedProgram, TextsBelow}
 use Rattle.typed_laws.proofs.FormedTrees.{HasNumbers, HasTexts, routine, statement, initialised, block}
 
 -- ToInt32 gives numbers of 32 bits

@@ -28,9 +28,9 @@ use Rattle.sts_scope.specs.Handlers.{handlers_of, optional_handlers, routine_han
 use Rattle.type_derive.specs.inner.Filling.{pure, ◌>=>◌}
 use Rattle.sts_scope.specs.Numbers.{Numbering, global_number, item_numbers, main_numbers, member_numbers, global_places}
 use Rattle.type_derive.specs.Built.{Site}
-use Rattle.type_derive.specs.inner.Filled.{made_given, made_first, made_statements}
-use Rattle.type_derive.specs.Programs.{◌before◌}
-use Rattle.type_derive.specs.inner.FilledPrograms.{site, function_made, method_made, initial_made, initials, made_statements_of, constructor_made, unwritten_made, members_made, class_made, global_made, globals_made, main_made, super_called}
+use Rattle.type_derive.specs.inner.Filled.{made_given, made_first, made_statements, site, function_made, method_made}
+use Rattle.typed_laws.specs.Programs.{◌before◌, unwritten_made, super_called}
+use Rattle.typed_laws.specs.inner.FilledPrograms.{initial_made, initials, made_statements_of, constructor_made, members_made, class_made, global_made, globals_made, main_made}
 use Rattle.typed_laws.proofs.Typed.{last, first}
 use Rattle.typed_laws.proofs.Counts.{Counts, counts_bind, counts_one, counts_two, given_counts, initial_counts, statement_counts, statements_counts}
 
@@ -172,10 +172,10 @@ module _ (tables : Tables) (names : Naming) (k : Known) (numbers : Numbering) wh
       let G : Statements → Type 0 = λ xs. made_failure tables names k s.place i b xs ≡ None → Counts (statements_handlers xs) (made_statements_of tables names k numbers s (Some b) inits xs) in
       let base : G (also (Plain j (SuperCall l None args)) rest) = λ h1.
       let A = failures tables names k s.place [] args in
-      let B = own_super_call tables names k (types_of tables k s.place args) (maker_takes_of k.classes b) l in
+      let B = own_super_call k (types_of tables k s.place args) (maker_takes_of k.classes b) l in
       let C = statements_failure tables names k s.place rest in
       counts_two (handlers_of args) (statements_handlers rest) (made_given tables names k numbers s (maker_takes_of k.classes b) args) (made_statements tables names k numbers s rest)
-      (λ ys xs. e.also (super_called tables names k numbers b ys) (inits before xs)) (given_counts tables names k numbers s (maker_takes_of k.classes b) args (first A (B then C) h1))
+      (λ ys xs. e.also (super_called numbers b ys) (inits before xs)) (given_counts tables names k numbers s (maker_takes_of k.classes b) args (first A (B then C) h1))
       (statements_counts tables names k numbers s rest (last B C (last A (B then C) h1))) in
       subst G (sym is) base h
 
@@ -209,7 +209,7 @@ module _ (tables : Tables) (names : Naming) (k : Known) (numbers : Numbering) wh
       ∙ ap (λ (i : ℕ). i + length (members_made tables names k numbers c inits (suc n + routine_handlers r) d rest)) (constructor_counts c n inits r (first A B h))
       ∙ ap (λ (i : ℕ). suc (routine_handlers r) + i) (members_counts c (suc n + routine_handlers r) d inits rest (last A B h))
 
-  pub unwritten_counts : (c : ℕ) (inits : List TypedStatement) (members : List ClassMember) → length (unwritten_made tables names k numbers (unwritten members) c inits) ≡ unwritten members
+  pub unwritten_counts : (c : ℕ) (inits : List TypedStatement) (members : List ClassMember) → length (unwritten_made k numbers (unwritten members) c inits) ≡ unwritten members
   unwritten_counts c inits [] = refl
   unwritten_counts c inits (Field a ∷ rest) = unwritten_counts c inits rest
   unwritten_counts c inits (Method x r ∷ rest) = unwritten_counts c inits rest
@@ -219,7 +219,7 @@ module _ (tables : Tables) (names : Naming) (k : Known) (numbers : Numbering) wh
   class_counts c n d members h =
       let first' = n + unwritten members in
       let inits = initials tables names k numbers c first' d members in
-      length-append (unwritten_made tables names k numbers (unwritten members) c inits) (members_made tables names k numbers c inits first' d members)
+      length-append (unwritten_made k numbers (unwritten members) c inits) (members_made tables names k numbers c inits first' d members)
       ∙ ap (λ (i : ℕ). i + length (members_made tables names k numbers c inits first' d members)) (unwritten_counts c inits members) ∙ ap (λ (i : ℕ). unwritten members + i) (members_counts c first' d inits members h)
 
   abbrev global_make : ℕ → Option TypedTree → TypedDeclaration

@@ -1,3 +1,5 @@
+pub mod FormedParts
+pub mod Stands
 pub mod Returning
 pub mod Typed
 pub mod OneNode

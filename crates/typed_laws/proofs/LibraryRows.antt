@@ -23,11 +23,11 @@ use Rattle.type_derive.specs.Typing.{space_of, space, own_call, board_callee, �
 use Rattle.type_derive.specs.Making.{Made}
 use Rattle.type_derive.specs.inner.Filling.{◌>=>◌}
 use Rattle.type_derive.specs.Built.{Site}
-use Rattle.type_derive.specs.inner.Filled.{behind_statement, routine, made_tree, made_asked, made_statement, made_statements, made_locals, made_local, made_first}
+use Rattle.type_derive.specs.inner.Filled.{behind_statement, routine, made_tree, made_asked, made_statement, made_statements, made_locals, made_local, made_first, site, class_result}
 use Rattle.sts_scope.specs.Numbers.{Numbering, numbering}
-use Rattle.type_derive.specs.inner.FilledPrograms.{site, class_result, library_made}
-use Rattle.type_derive.specs.Accepted.{AreDerived}
-use Rattle.type_derive.specs.Libraries.{taken}
+use Rattle.typed_laws.specs.inner.FilledPrograms.{library_made}
+use Rattle.type_derive.specs.Derived.{AreDerived}
+use Rattle.typed_laws.specs.Libraries.{taken}
 use Rattle.sts_prelude.specs.Library as l
 use Rattle.sts_prelude.proofs.Laws.{own_tokens}
 use Rattle.typed_laws.proofs.Prelude.{L, names, k, T, show, basic, number_glyph, text_glyph, serial, stated}

@@ -17,7 +17,9 @@ use Rattle.sts_scope.specs.Rules as rules
 use Rattle.type_derive.specs.Passes.{outside_failure, body_failure, members_nodes, item_nodes, nodes_failure}
 use Rattle.sts_scope.specs.Handlers.{routine_handlers, declared_handlers, statement_handlers, members_routines, unwritten, item_routines}
 use Rattle.sts_scope.specs.Numbers.{Numbering, maker_from, makers_from}
-use Rattle.type_derive.specs.inner.FilledPrograms.{function_made, method_made, initial_made, initials, constructor_made, unwritten_made, members_made, class_made, main_made, items_made}
+use Rattle.type_derive.specs.inner.Filled.{function_made, method_made}
+use Rattle.typed_laws.specs.Programs.{unwritten_made}
+use Rattle.typed_laws.specs.inner.FilledPrograms.{initial_made, initials, constructor_made, members_made, class_made, main_made, items_made}
 use Rattle.typed_laws.proofs.Typed.{last, first}
 use Rattle.typed_laws.proofs.Makings.{Placed, placed_left}
 use Rattle.typed_laws.proofs.Suffixes.{Suffix, suffix_step, suffix_at, suffix_head}
@@ -208,9 +210,9 @@ module _ (tables : Tables) (names : Naming) (k : Known) (numbers : Numbering) (P
         let same : maker_takes_of k.classes c ≡ takes = takes_of_head k.classes c (class_head names at base base_at members) takes head q in
         subst (λ (us : List StaticType). HasBody tables names k numbers P (t.Object c ∷ value_types us) (t.Object c) (maker_from n n members)) (sym same) at_n)
     | inr (one_so, q, same) ↦ (let inits = initials tables names k numbers c (n + unwritten members) d members in
-        let made = unwritten_made tables names k numbers (unwritten members) c inits in
+        let made = unwritten_made k numbers (unwritten members) c inits in
         let own = placed_left P n made (members_made tables names k numbers c inits (n + unwritten members) d members) placed in
-        let one : Placed P n (unwritten_made tables names k numbers 1 c inits) = subst (λ (j : ℕ). Placed P n (unwritten_made tables names k numbers j c inits)) one_so own in
+        let one : Placed P n (unwritten_made k numbers 1 c inits) = subst (λ (j : ℕ). Placed P n (unwritten_made k numbers j c inits)) one_so own in
         subst (λ (j : ℕ). FitsMaker c j) (sym (same n n)) (_, one.0, refl, refl))
   ]
 

@@ -22,12 +22,12 @@ use Rattle.sts_scope.specs.Scopes.{all_names, library_classes}
 use Rattle.sts_scope.specs.Handlers.{unwritten, item_routines, declared_handlers, routine_handlers, all_routines}
 use Rattle.sts_scope.specs.Numbers.{Numbering, numbering, global_number, maker_number}
 use Rattle.type_derive.specs.Built.{Site}
-use Rattle.type_derive.specs.inner.Filled.{made_first, made_given, made_statements}
-use Rattle.type_derive.specs.Programs.{◌before◌, passed_on}
-use Rattle.type_derive.specs.inner.FilledPrograms.{site, class_result, function_made, method_made, initial_made, set_field, initials, super_called, made_statements_of, constructor_made, passes_on, unwritten_made, members_made, class_made, global_made, globals_made, main_made, items_made, library_made}
-use Rattle.type_derive.specs.Formed.{BodyHas, DeclarationHas, DeclarationsHave, StatementsHave, MembersHave, ProgramHas, StatementHas, TextsBelow}
-use Rattle.type_derive.specs.Accepted.{known}
-use Rattle.type_derive.specs.inner.FilledTexts.{filled_program}
+use Rattle.type_derive.specs.inner.Filled.{made_first, made_given, made_statements, site, class_result, function_made, method_made}
+use Rattle.typed_laws.specs.Programs.{◌before◌, passed_on, super_called, passes_on, unwritten_made}
+use Rattle.typed_laws.specs.inner.FilledPrograms.{initial_made, set_field, initials, made_statements_of, constructor_made, members_made, class_made, global_made, globals_made, main_made, items_made, library_made}
+use Rattle.typed_laws.specs.Formed.{BodyHas, DeclarationHas, DeclarationsHave, StatementsHave, MembersHave, ProgramHas, StatementHas, TextsBelow}
+use Rattle.type_derive.specs.Derived.{known}
+use Rattle.typed_laws.specs.inner.FilledTexts.{filled_program}
 use Rattle.typed_laws.proofs.TextsKept.{AllName, RoutinesName, both, routines_both, Sound, Makes, makes_pure, one_of, two_of, OfTrees, OfOption, OfDeclaration, OfDeclarations, OfStatement, OfStatements, routine_names, Whatever, Below, first, given, statement, statements}
 
 module _ (n : ℕ) where
@@ -77,7 +77,7 @@ module _ (n : ℕ) where
     statements_of s None inits all p h =
         one_of n (OfStatements n) (OfStatements n) (made_statements tables names k numbers s all) (λ xs. inits before xs) (statements n tables names k numbers s false all h) (λ xs q. before_names inits xs p q)
     statements_of s (Some b) inits (also (Plain i (SuperCall j None args)) rest) p h =
-        two_of n (OfTrees n) (OfStatements n) (OfStatements n) (made_given tables names k numbers s (maker_takes_of k.classes b) args) (made_statements tables names k numbers s rest) (λ ys xs. e.also (super_called tables names k numbers b ys) (inits before xs))
+        two_of n (OfTrees n) (OfStatements n) (OfStatements n) (made_given tables names k numbers s (maker_takes_of k.classes b) args) (made_statements tables names k numbers s rest) (λ ys xs. e.also (super_called numbers b ys) (inits before xs))
         (given n tables names k numbers s (maker_takes_of k.classes b) args h.0) (statements n tables names k numbers s false rest h.1)
         (λ ys xs q r. both n (nodes (e.SuperCall (t.Object b) (maker_number numbers b) ys)) (expressions_of (inits before xs)) (tt, q) (before_names inits xs p r))
     statements_of s (Some b) inits all p h =
@@ -88,15 +88,15 @@ module _ (n : ℕ) where
         let s = site tables names k numbers (this.Object c) (Some nothing) false 1 params in
         routine_names n tables names k numbers (t.Object c ∷ value_types (parameter_kinds names params)) (t.Object c) (made_statements_of tables names k numbers s (base_of k.classes c) inits all) (statements_of s (base_of k.classes c) inits all p h) i
 
-    passes_name : (base : Option ℕ) (takes : List StaticType) → StatementsName (passes_on tables names k numbers base takes)
+    passes_name : (base : Option ℕ) (takes : List StaticType) → StatementsName (passes_on numbers base takes)
     passes_name None takes = tt
     passes_name (Some b) takes = ((tt, passed_names 1 takes), tt)
 
-    unwritten_names : (m c : ℕ) (inits : List TypedStatement) → StatementsName inits → RoutinesName n (unwritten_made tables names k numbers m c inits)
+    unwritten_names : (m c : ℕ) (inits : List TypedStatement) → StatementsName inits → RoutinesName n (unwritten_made k numbers m c inits)
     unwritten_names zero c inits p = tt
     unwritten_names (suc m) c inits p =
         let takes = maker_takes_of k.classes c in
-        let passed = passes_on tables names k numbers (base_of k.classes c) takes in
+        let passed = passes_on numbers (base_of k.classes c) takes in
         (before_names (passed ++ inits) e.done (statements_both passed inits (passes_name (base_of k.classes c) takes) p) tt, tt)
 
     members_name : (c : ℕ) (inits : List TypedStatement) (i d : ℕ) (all : List ClassMember) → StatementsName inits → MembersHave Whatever (Below n) all → RoutinesName n (members_made tables names k numbers c inits i d all)
@@ -115,7 +115,7 @@ module _ (n : ℕ) where
         let start = i + unwritten all in
         let inits = initials tables names k numbers c start d all in
         let p = initials_name c start d all h in
-        routines_both n (unwritten_made tables names k numbers (unwritten all) c inits) (members_made tables names k numbers c inits start d all) (unwritten_names (unwritten all) c inits p) (members_name c inits start d all p h)
+        routines_both n (unwritten_made k numbers (unwritten all) c inits) (members_made tables names k numbers c inits start d all) (unwritten_names (unwritten all) c inits p) (members_name c inits start d all p h)
 
     global_names : (d : ℕ) (a : Declaration) → DeclarationHas Whatever (Below n) a → Makes n (OfDeclaration n) (global_made tables names k numbers d a)
     global_names d (Declare at x shape o) h =

@@ -24,7 +24,7 @@ use Rattle.sts_scope.specs.Places.{NameScope, is_hidden, last_named, found_among
 use Rattle.sts_scope.specs.Rules.{local_kind, name_kind, this_kind, kind_at, takes_at, is_spelled, array_part, member_part, object_part, class_part, part_of, part_kind, call_kind, all_go, maker_takes_of, operate, prefix, joined, common, choose, assign, counted, element, items_type, comparable, below, goes, all_go_to, is_arithmetic, is_order, is_equality}
 use Rattle.type_derive.specs.declared.roles.Role.TheVariants.{Free, Given}
 use Rattle.type_derive.specs.Typing.{◌>>=◌, Callee, callee, board_kind, finds, space_of, space, constant_of, board_callee, named_callee, part_callee, callee_of, super_method, made, called, type_of, types_of, are_given, settable}
-use Rattle.typed_laws.specs.Stands.{IsProper}
+use Rattle.typed_laws.proofs.Stands.{IsProper}
 use Rattle.typed_laws.proofs.OneNode.{if_cases, if_gives, if_some}
 
 pub record Is {A : Type 0} (o : Option A) : Type 0 where
@@ -52,7 +52,7 @@ call_parts : (k : Known) (takes : List StaticType) (gives : Option StaticType) (
 unfolding call_kind
 call_parts k takes gives us u h = elim (if_cases (all_go k.classes us takes) gives None u h) [ inl q ↦ q | inr q ↦ (let z : None ≡ Some u = q.1 in cc) ]
 
-pub called_parts : (tables : Tables) (k : Known) (d : Option Callee) (ts : Option (List StaticType)) (u : StaticType) → called tables k d ts ≡ Some u
+pub called_parts : (tables : Tables) (k : Known) (d : Option Callee) (ts : Option (List StaticType)) (u : StaticType) → called k d ts ≡ Some u
     → (x : Callee) × (us : List StaticType) × (d ≡ Some x) × (ts ≡ Some us) × (all_go k.classes us x.takes ≡ true) × (x.gives ≡ Some u)
 called_parts tables k d ts u h =
     let (x, q, h1) = bind_some d (λ x. ts >>= λ us. call_kind k.classes x.takes x.gives us) u h in
@@ -62,7 +62,7 @@ called_parts tables k d ts u h =
 
 module _ (tables : Tables) (k : Known) (p : NameScope) where
   -- a name before a part of the board's interface has no type
-  unknown_space : (x : ℕ) (f : Found) (s : List ℕ) → space_of tables k x f ≡ Some s → name_kind k p f ≡ None
+  unknown_space : (x : ℕ) (f : Found) (s : List ℕ) → space_of tables x f ≡ Some s → name_kind k p f ≡ None
   unknown_space x found.Unknown s h = refl
   unknown_space x (found.Local i) s h = cc
   unknown_space x found.Captured s h = cc
@@ -288,7 +288,7 @@ module _ (tables : Tables) (k : Known) (kinds_proper : (d : ℕ) (u : StaticType
   pub record AllProper (c : Callee) : Type 0 where
     pub gives : (u : StaticType) → c.gives ≡ Some u → IsProper u
 
-  named_proper : (f : Found) (c : Callee) → named_callee tables k f ≡ Some c → AllProper c
+  named_proper : (f : Found) (c : Callee) → named_callee k f ≡ Some c → AllProper c
   named_proper (found.Function d) c h = let q : callee (takes_at k.entries d) (kind_at k d) ≡ c = some_is _ _ h in subst AllProper q (record { gives = λ u e. kinds_proper d u e })
   named_proper (found.Local i) c h = cc
   named_proper (found.Global d) c h = cc
@@ -296,7 +296,7 @@ module _ (tables : Tables) (k : Known) (kinds_proper : (d : ℕ) (u : StaticType
   named_proper (found.Class i) c h = cc
   named_proper found.Unknown c h = cc
 
-  member_callee_proper : (u : StaticType) (m : ℕ) (f : Part) (c : Callee) → IsProper u → HasPart k u m f → part_callee tables k f ≡ Some c → AllProper c
+  member_callee_proper : (u : StaticType) (m : ℕ) (f : Part) (c : Callee) → IsProper u → HasPart k u m f → part_callee k f ≡ Some c → AllProper c
   member_callee_proper u m (part.Method d) c p has h = let q : callee (takes_at k.entries d) (kind_at k d) ≡ c = some_is _ _ h in subst AllProper q (record { gives = λ v e. kinds_proper d v e })
   member_callee_proper u m (part.Push v) c p has h = let q : callee (v ∷ []) (Some nothing) ≡ c = some_is _ _ h in subst AllProper q (record { gives = λ w e. subst IsProper (some_is nothing w e) refl })
   member_callee_proper u m (part.Pop v) c p has h =
@@ -316,7 +316,7 @@ module _ (tables : Tables) (k : Known) (kinds_proper : (d : ℕ) (u : StaticType
   board_call_proper (Some call) given o u f h = fixed_some IsProper (given call) (board_kind (row_of call).gives) u (board_proper (row_of call).gives) h
   board_call_proper None given o u f h = f u h
 
-  called_proper : (d : Option Callee) (us : Option (List StaticType)) (u : StaticType) → ((c : Callee) → d ≡ Some c → AllProper c) → called tables k d us ≡ Some u → IsProper u
+  called_proper : (d : Option Callee) (us : Option (List StaticType)) (u : StaticType) → ((c : Callee) → d ≡ Some c → AllProper c) → called k d us ≡ Some u → IsProper u
   called_proper d us u f h =
       let (c, q, h1) = bind_some d (λ c. us >>= λ vs. call_kind k.classes c.takes c.gives vs) u h in
       let (vs, r, h2) = bind_some us (λ vs. call_kind k.classes c.takes c.gives vs) u h1 in
@@ -326,7 +326,7 @@ module _ (tables : Tables) (k : Known) (kinds_proper : (d : ℕ) (u : StaticType
   super_proper None c h = cc
   super_proper (Some i) c h = let q : callee (takes_at k.entries i) (kind_at k i) ≡ c = some_is _ _ h in subst AllProper q (record { gives = λ u e. kinds_proper i u e })
 
-  made_proper : (f : Found) (c : Callee) → made tables k f ≡ Some c → AllProper c
+  made_proper : (f : Found) (c : Callee) → made k f ≡ Some c → AllProper c
   made_proper (found.Class i) c h = let q : callee (maker_takes_of k.classes i) (Some (object i)) ≡ c = some_is _ _ h in subst AllProper q (record { gives = λ u e. subst IsProper (some_is (object i) u e) refl })
   made_proper (found.Local i) c h = cc
   made_proper (found.Global d) c h = cc
@@ -377,18 +377,18 @@ module _ (tables : Tables) (k : Known) (kinds_proper : (d : ℕ) (u : StaticType
           let (s, q, h1) = bind_some (type_of tables k p Free e) (λ s. types_of tables k p rest >>= λ us. items_type k.classes s us) u h in
           let (us, r, h2) = bind_some (types_of tables k p rest) (λ us. items_type k.classes s us) u h1 in items_proper s u us (proper e s q) h2
       proper (Call at f args) u h =
-          board_call_proper (board_callee tables k p f) (λ call. are_given tables k p (row_of call).takes args) (called tables k (callee_of tables k p f) (types_of tables k p args)) u
+          board_call_proper (board_callee tables k p f) (λ call. are_given tables k p (row_of call).takes args) (called k (callee_of tables k p f) (types_of tables k p args)) u
           (λ w g. called_proper (callee_of tables k p f) (types_of tables k p args) w (λ c q. callee_proper f c q) g) h
       proper (SuperCall at None args) u h = cc
       proper (SuperCall at (Some m) args) u h =
-          called_proper (super_method tables k p.this m >>= λ d. Some (callee (takes_at k.entries d) (kind_at k d))) (types_of tables k p args) u (λ c q. super_proper (super_method tables k p.this m) c q) h
-      proper (Make at x args) u h = called_proper (made tables k (finds tables k p x)) (types_of tables k p args) u (λ c q. made_proper (finds tables k p x) c q) h
+          called_proper (super_method k p.this m >>= λ d. Some (callee (takes_at k.entries d) (kind_at k d))) (types_of tables k p args) u (λ c q. super_proper (super_method k p.this m) c q) h
+      proper (Make at x args) u h = called_proper (made k (finds tables k p x)) (types_of tables k p args) u (λ c q. made_proper (finds tables k p x) c q) h
       proper (Handler at body) u h = cc
 
       pub callee_proper : (f : Tree) (c : Callee) → callee_of tables k p f ≡ Some c → AllProper c
       callee_proper (Name at x) c h = named_proper (finds tables k p x) c h
       callee_proper (Member at e m) c h =
-          let (u, q, h1) = bind_some (type_of tables k p Free e) (λ u. part_callee tables k (part_of tables.names k u m)) c h in
+          let (u, q, h1) = bind_some (type_of tables k p Free e) (λ u. part_callee k (part_of tables.names k u m)) c h in
           member_callee_proper u m (part_of tables.names k u m) c (proper e u q) (has_part k tables.names u m) h1
       callee_proper (Num at n) c h = cc
       callee_proper (Text at n) c h = cc

@@ -12,7 +12,7 @@ use Rattle.sts_scope.specs.declared.kinds.Base.TheVariants as b
 use Rattle.sts_scope.specs.declared.entries.ClassHead.{ClassHead}
 use Rattle.sts_scope.specs.Kinds.{number, boolean, nothing, null, empty, array, item, same_base, same, is_array, class_of, base_class, takes_null, base_takes_null, base_type, value_type}
 use Rattle.sts_scope.specs.Lookup.{base_of}
-use Rattle.typed_laws.specs.Stands.{is_proper_base, IsProper}
+use Rattle.typed_laws.proofs.Stands.{is_proper_base, IsProper}
 use Rattle.sts_scope.specs.Rules.{reaches, below, goes, comparable, is_arithmetic, is_equality, is_order, operate, prefix, joined, common, choose, counted, element}
 
 same_base_is : (a c : Base) → same_base a c ≡ true → a ≡ c

@@ -19,17 +19,20 @@ use Rattle.sts_scope.specs.Lookup.{base_of}
 use Rattle.sts_scope.specs.Numbers.{Numbering, numbering, member_numbers, global_places, main_numbers, item_numbers, numbers_from}
 use Rattle.sts_scope.specs.Rules.{kind_at}
 use Rattle.sts_scope.specs.Scopes.{all_names, library_classes}
-use Rattle.type_derive.specs.Accepted.{known, AreDerived, main_routine, text_failure}
-use Rattle.type_derive.specs.inner.FilledTexts.{filled_program}
-use Rattle.type_derive.specs.Formed.{IsFormedProgram}
-use Rattle.type_derive.specs.Libraries.{OnlyFunctions, library_failure, IsLibrary}
+use Rattle.type_derive.specs.Derived.{known, AreDerived}
+use Rattle.typed_laws.specs.Accepted.{main_routine, text_failure}
+use Rattle.typed_laws.specs.inner.FilledTexts.{filled_program}
+use Rattle.typed_laws.specs.Formed.{IsFormedProgram}
+use Rattle.typed_laws.specs.Libraries.{OnlyFunctions, library_failure, IsLibrary}
 use Rattle.type_derive.specs.Nodes.{statements_failure}
 use Rattle.type_derive.specs.Passes.{outside_failure, body_failure, constructor_failure, members_nodes, item_nodes, nodes_failure}
-use Rattle.type_derive.specs.inner.FilledPrograms.{function_made, method_made, initial_made, initials, constructor_made, members_made, class_made, main_made, items_made, library_made}
-use Rattle.type_derive.specs.Programs as tp
+use Rattle.type_derive.specs.inner.Filled.{function_made, method_made}
+use Rattle.typed_laws.specs.inner.FilledPrograms.{initial_made, initials, constructor_made, members_made, class_made, main_made, items_made, library_made}
+use Rattle.type_derive.specs.Functions as tf
+use Rattle.typed_laws.specs.Programs as tp
 use Rattle.type_derive.specs.Typing.{◌>>=◌}
 use Rattle.type_derive.specs.Returns.{parameter_locals, within}
-use Rattle.typed_laws.specs.Stands.{IsProper}
+use Rattle.typed_laws.proofs.Stands.{IsProper}
 use Rattle.typed_laws.specs.OwnFunctions.{global_routines, main_routines, own_routines, routines_in, declared_routines, StandFrom, HasItsFunction, FunctionsAreDeclared}
 use Rattle.typed_laws.specs.Laws.{FunctionsAreTheirs}
 use Rattle.typed_laws.specs.WholePrograms.{HasItsType}
@@ -211,7 +214,7 @@ module _ (tables : Tables) (names : Naming) (k : Known) (numbers : Numbering) (P
       subst (λ (x : ℕ). Placed P (n + item_routines i) (later (c + 0) x)) d_step (subst (λ (x : ℕ). Placed P (n + item_routines i) (later x (suc d))) c_step at_first) in
       let en : Entry = record { at = j; owner = o.Whole; name = x; sort = sort.Function; takes = parameter_kinds names params } in
       let has_type : IsSome (kind_at k d) = typed_so d en (suffix_head k.entries d en (entries_from names (c + classes_in i) rest) s) near in
-      let Stands : Bool → Type 0 = λ z. (xs : List TypedRoutine) × (tp.function_made tables names k numbers z n (kind_at k d) r ≡ Some xs) × StandFrom P n xs in
+      let Stands : Bool → Type 0 = λ z. (xs : List TypedRoutine) × (tf.function_made tables names k numbers z n (kind_at k d) r ≡ Some xs) × StandFrom P n xs in
       let stands_so : Stands false = (here, function_so tables names k numbers false n (kind_at k d) j params gives all arrow has_type (first A B h), stand P n here (placed_left P n here (later c (suc d)) placed)) in
       let stands : Stands (F d) = subst Stands (sym (own d (omega arith))) stands_so in
       agree_both d es (routines_in i) (item_numbers n i) (entries_from names (c + classes_in i) rest) (declared_routines rest) (numbers_from (n + item_routines i) rest) ((refl, stands.0, stands.1, stands.2), tt)
@@ -242,10 +245,10 @@ module _ (tables : Tables) (names : Naming) (k : Known) (numbers : Numbering) (P
       let later = library_made tables names k numbers (suc d) (n + item_routines i) rest in
       let count = function_counts tables names k numbers true n (kind_at k d) j params gives all arrow (first A B h) in
       let made_later : Option (List TypedRoutine) = tp.library_made tables names k numbers (suc d) (n + item_routines i) rest in
-      let (ys, ys_is, q1) = bind_some (tp.function_made tables names k numbers true n (kind_at k d) r) (λ ys. made_later >>= λ zs. Some (ys ++ zs)) rs q in
+      let (ys, ys_is, q1) = bind_some (tf.function_made tables names k numbers true n (kind_at k d) r) (λ ys. made_later >>= λ zs. Some (ys ++ zs)) rs q in
       let (zs, zs_is, q2) = bind_some made_later (λ zs. Some (ys ++ zs)) rs q1 in
       let has_type : IsSome (kind_at k d) = library_typed tables names k numbers d n j params gives all arrow ys ys_is in
-      let Stands : Bool → Type 0 = λ z. (xs : List TypedRoutine) × (tp.function_made tables names k numbers z n (kind_at k d) r ≡ Some xs) × StandFrom P n xs in
+      let Stands : Bool → Type 0 = λ z. (xs : List TypedRoutine) × (tf.function_made tables names k numbers z n (kind_at k d) r ≡ Some xs) × StandFrom P n xs in
       let stands_so : Stands true = (here, function_so tables names k numbers true n (kind_at k d) j params gives all arrow has_type (first A B h), stand P n here (placed_left P n here later placed)) in
       let stands : Stands (F d) = subst Stands (sym (own d (omega arith))) stands_so in
       ((refl, stands.0, stands.1, stands.2), library_agrees (c + 0) (suc d) (n + item_routines i) rest f (λ e lt. own e (omega (arith, lt))) zs zs_is (last A B h) (placed_at tables names k numbers P n (item_routines i) here later count placed))

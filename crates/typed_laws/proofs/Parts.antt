@@ -35,15 +35,16 @@ use Rattle.type_derive.specs.Returns.{bound}
 use Rattle.type_derive.specs.Derived.{Source, Stated, item_sources, main_sources, global_sources, sources_from, member_sources, declared_source, follows}
 use Rattle.type_derive.specs.Nodes.{initial_failure, own_bound}
 use Rattle.type_derive.specs.Passes.{outside_failure, globals_failure, main_failure, item_nodes, nodes_failure}
-use Rattle.type_derive.specs.Formed.{IsFormedDeclaration, IsFormedProgram, IsFormedIn, AreFormedDeclarations}
+use Rattle.typed_laws.proofs.FormedParts.{IsFormedDeclaration, IsFormedIn, AreFormedDeclarations}
+use Rattle.typed_laws.specs.Formed.{IsFormedProgram}
 use Rattle.sts_scope.specs.Handlers.{optional_handlers, declarations_handlers, statement_handlers, statements_handlers, unwritten, members_routines, item_routines, all_routines}
 use Rattle.type_derive.specs.Making.{Made as Made'}
 use Rattle.type_derive.specs.inner.Filling.{pure, ◌>=>◌}
 use Rattle.sts_scope.specs.Numbers.{Numbering, global_number, item_numbers, numbers_from, member_numbers, item_makers, makers_from, maker_from}
 use Rattle.type_derive.specs.Built.{Site}
-use Rattle.type_derive.specs.inner.Filled.{made_first}
-use Rattle.type_derive.specs.inner.FilledPrograms.{function_made, class_made, initials, global_made, globals_made, main_made, items_made}
-use Rattle.typed_laws.specs.Stands.{Stands}
+use Rattle.type_derive.specs.inner.Filled.{made_first, function_made}
+use Rattle.typed_laws.specs.inner.FilledPrograms.{class_made, initials, global_made, globals_made, main_made, items_made}
+use Rattle.typed_laws.proofs.Stands.{Stands}
 use Rattle.typed_laws.proofs.Typed.{last, first}
 use Rattle.typed_laws.proofs.Makings.{Gives, gives_as, gives_bind, gives_pure, Placed, placed_left, Kept, kept_left, kept_right, good_pure, good_bind, good_free, good_as, numbers_more}
 use Rattle.typed_laws.proofs.Makings.{Good as Built}

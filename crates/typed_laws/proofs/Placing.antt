@@ -23,7 +23,9 @@ use Rattle.sts_scope.specs.Rules.{kind_at}
 use Rattle.type_derive.specs.Passes.{outside_failure, body_failure, constructor_failure, members_nodes, item_nodes, nodes_failure}
 use Rattle.sts_scope.specs.Handlers.{routine_handlers, declared_handlers, unwritten, item_routines}
 use Rattle.sts_scope.specs.Numbers.{Numbering, member_numbers, global_places, main_numbers, item_numbers, numbers_from}
-use Rattle.type_derive.specs.inner.FilledPrograms.{function_made, method_made, initial_made, initials, constructor_made, unwritten_made, members_made, class_made, main_made, items_made}
+use Rattle.type_derive.specs.inner.Filled.{function_made, method_made}
+use Rattle.typed_laws.specs.Programs.{unwritten_made}
+use Rattle.typed_laws.specs.inner.FilledPrograms.{initial_made, initials, constructor_made, members_made, class_made, main_made, items_made}
 use Rattle.typed_laws.proofs.Typed.{last, first}
 use Rattle.typed_laws.proofs.Makings.{Placed, placed_left, placed_right}
 use Rattle.typed_laws.proofs.Items.{function_counts, method_counts, field_counts, constructor_counts, unwritten_counts, class_counts, main_counts}
@@ -126,7 +128,7 @@ module _ (tables : Tables) (names : Naming) (k : Known) (numbers : Numbering) (P
       → Placed P (n + unwritten members) (members_made tables names k numbers c (initials tables names k numbers c (n + unwritten members) d members) (n + unwritten members) d members)
   members_placed c n d members placed =
       let inits = initials tables names k numbers c (n + unwritten members) d members in
-      placed_at n (unwritten members) (unwritten_made tables names k numbers (unwritten members) c inits) (members_made tables names k numbers c inits (n + unwritten members) d members) (unwritten_counts tables names k numbers c inits members) placed
+      placed_at n (unwritten members) (unwritten_made k numbers (unwritten members) c inits) (members_made tables names k numbers c inits (n + unwritten members) d members) (unwritten_counts tables names k numbers c inits members) placed
 
   -- how a text's functions begin with those of its first part
   pub text_aligned : (c d m n : ℕ) (text : Program) → nodes_failure tables names k c d text ≡ None → Placed P n (items_made tables names k numbers c d m n text).routines → Aligned d (entries_from names c text) (numbers_from n text)

@@ -17,12 +17,11 @@ use Rattle.sts_scope.specs.Lookup.{declares, sort_of}
 use Rattle.sts_scope.specs.Places.{local, global_named, whole_found, sort_found}
 use Rattle.sts_scope.specs.Rules.{kind_at}
 use Rattle.sts_scope.specs.Scopes.{all_names}
-use Rattle.type_derive.specs.Derived.{at, Source, Stated, follows}
+use Rattle.type_derive.specs.Derived.{at, Source, Stated, follows, known, AreDerived, all_sources}
 use Rattle.type_derive.specs.Returns.{within}
 use Rattle.type_derive.specs.Nodes.{statements_failure}
-use Rattle.type_derive.specs.Formed.{IsFormedProgram}
-use Rattle.type_derive.specs.Accepted.{known, AreDerived, all_sources}
-use Rattle.type_derive.specs.Libraries.{library_failure}
+use Rattle.typed_laws.specs.Formed.{IsFormedProgram}
+use Rattle.typed_laws.specs.Libraries.{library_failure}
 use Rattle.sts_prelude.specs.Library as l
 use Rattle.sts_prelude.proofs.Laws.{own, own_tokens}
 use Rattle.typed_laws.proofs.Typed.{some}

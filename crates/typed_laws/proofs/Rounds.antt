@@ -18,10 +18,9 @@ use Rattle.sts_scope.specs.Scopes.{all_names}
 use Rattle.type_derive.specs.declared.roles.Role.TheVariants.{Free}
 use Rattle.type_derive.specs.Typing.{type_of}
 use Rattle.type_derive.specs.Returns.{is_alone, parameter_locals, within, bound, all_declared, after, after_first, items_of, looped, returned, all_returned, answered}
-use Rattle.type_derive.specs.Derived.{Source, Stated, Initial, Returns, declared_source, routine_source, global_sources, main_sources, member_sources, item_sources, sources_from, follows, at}
-use Rattle.type_derive.specs.Accepted.{known, all_sources, derivation, AreDerived}
+use Rattle.type_derive.specs.Derived.{Source, Stated, Initial, Returns, declared_source, routine_source, global_sources, main_sources, member_sources, item_sources, sources_from, follows, at, known, all_sources, derivation, AreDerived}
 use Rattle.type_derive.proofs.Laws.{rule_grows, least_has}
-use Rattle.typed_laws.specs.Stands.{IsProper}
+use Rattle.typed_laws.proofs.Stands.{IsProper}
 use Rattle.typed_laws.proofs.Names.{some_is, either_some, proper, AreProper}
 use Rattle.typed_laws.proofs.Sites.{kind_split}
 use Rattle.typed_laws.proofs.TreeFacts.{kind_proper, written_proper}
@@ -66,13 +65,13 @@ module _ (tables : Tables) (names : Naming) (k : Known) (kinds_proper : (d : ℕ
   first_proper p a omitted = a
   first_proper p a (written s) = after_proper p a s
 
-  items_proper : (o : Option StaticType) → ((u : StaticType) → o ≡ Some u → IsProper u) → (u : StaticType) → items_of tables names k o ≡ Some u → IsProper u
+  items_proper : (o : Option StaticType) → ((u : StaticType) → o ≡ Some u → IsProper u) → (u : StaticType) → items_of o ≡ Some u → IsProper u
   items_proper None h u q = cc
   items_proper (Some v) h u q = either_some IsProper (is_array v) (Some (item v)) None u (λ w r. let z : IsProper v = h v refl in subst IsProper (some_is (item v) w r) z) (λ w r. cc) q
 
-  looped_proper : (p : NameScope) → Proper p → (fixed : Bool) (x : ℕ) (list : Tree) → Proper (looped tables names k p fixed x list)
+  looped_proper : (p : NameScope) → Proper p → (fixed : Bool) (x : ℕ) (list : Tree) → Proper (looped tables k p fixed x list)
   looped_proper p a fixed x list =
-      with_proper (inner p) a x (items_of tables names k (type_of tables k p Free list)) fixed (λ u h. items_proper (type_of tables k p Free list) (λ v q. free_proper p a list v q) u h)
+      with_proper (inner p) a x (items_of (type_of tables k p Free list)) fixed (λ u h. items_proper (type_of tables k p Free list) (λ v q. free_proper p a list v q) u h)
 
   else_proper : (a b : Option (Option StaticType)) (u : StaticType) → ((v : StaticType) → a ≡ Some (Some v) → IsProper v) → ((v : StaticType) → b ≡ Some (Some v) → IsProper v) → option_or a b ≡ Some (Some u) → IsProper u
   else_proper None b u f g h = g u h
@@ -88,7 +87,7 @@ module _ (tables : Tables) (names : Naming) (k : Known) (kinds_proper : (d : ℕ
     returned_proper p a (While i test b) u h = returned_proper (inner p) a b u h
     returned_proper p a (DoWhile i b test) u h = returned_proper (inner p) a b u h
     returned_proper p a (For i one test step b) u h = returned_proper (inner (after_first tables names k (inner p) one)) (first_proper (inner p) a one) b u h
-    returned_proper p a (ForOf i fixed x list b) u h = returned_proper (inner (looped tables names k p fixed x list)) (looped_proper p a fixed x list) b u h
+    returned_proper p a (ForOf i fixed x list b) u h = returned_proper (inner (looped tables k p fixed x list)) (looped_proper p a fixed x list) b u h
     returned_proper p a (Let i fixed each) u h = cc
     returned_proper p a (Break i) u h = cc
     returned_proper p a (Continue i) u h = cc

@@ -24,13 +24,13 @@ use Rattle.typed_laws.proofs.Returning.{give_value}
 use Rattle.type_derive.specs.Returns.{parameter_locals, within}
 use Rattle.type_derive.specs.Nodes.{statements_failure}
 use Rattle.sts_scope.specs.Handlers.{statements_handlers}
-use Rattle.type_derive.specs.Formed.{AreFormedIn}
+use Rattle.typed_laws.proofs.FormedParts.{AreFormedIn}
 use Rattle.sts_scope.specs.Numbers.{Numbering, maker_number}
 use Rattle.type_derive.specs.Built.{Site}
-use Rattle.type_derive.specs.inner.Filled.{made_statements}
-use Rattle.type_derive.specs.Programs.{parameter_spots}
-use Rattle.type_derive.specs.inner.FilledPrograms.{site, class_entries}
-use Rattle.typed_laws.specs.Stands.{IsProper, Stands}
+use Rattle.type_derive.specs.inner.Filled.{made_statements, site}
+use Rattle.type_derive.specs.Functions.{parameter_spots}
+use Rattle.typed_laws.specs.inner.FilledPrograms.{class_entries}
+use Rattle.typed_laws.proofs.Stands.{IsProper, Stands}
 use Rattle.typed_laws.proofs.OneNode.{test_false}
 use Rattle.typed_laws.proofs.TreeFacts.{written_proper}
 use Rattle.typed_laws.proofs.Makings.{Placed, IsInner, Inners, kept_all}

@@ -27,7 +27,7 @@ use Rattle.sts_scope.specs.Rules.{local_kind, name_kind, this_kind, goes, below}
 use Rattle.sts_scope.specs.Numbers.{Numbering}
 use Rattle.type_derive.specs.Built.{Site, in_block}
 use Rattle.type_derive.specs.inner.Filled.{spot_of}
-use Rattle.typed_laws.specs.Stands.{is_proper_base, IsProper, Stands}
+use Rattle.typed_laws.proofs.Stands.{is_proper_base, IsProper, Stands}
 use Rattle.typed_laws.proofs.OneNode.{both_true, either_true, same_is, goes_to}
 use Rattle.typed_laws.proofs.Names.{Real, some_is}
 

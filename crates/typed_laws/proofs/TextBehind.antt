@@ -18,9 +18,9 @@ use Rattle.sts_scope.specs.Globals.{names_failure}
 use Rattle.sts_scope.specs.Headings.{headings_failure}
 use Rattle.sts_scope.specs.Rules.{kind_at}
 use Rattle.sts_scope.specs.Scopes.{all_names, library_classes, heading_refusal}
-use Rattle.type_derive.specs.Accepted.{known, all_sources, AreDerived, text_failure}
-use Rattle.type_derive.specs.Derived.{Source, item_sources, sources_from, follows, at}
-use Rattle.type_derive.specs.Libraries.{OnlyFunctions}
+use Rattle.type_derive.specs.Derived.{known, all_sources, AreDerived, Source, item_sources, sources_from, follows, at}
+use Rattle.typed_laws.specs.Accepted.{text_failure}
+use Rattle.typed_laws.specs.Libraries.{OnlyFunctions}
 use Rattle.type_derive.specs.Passes.{all_overrides, nodes_failure}
 use Rattle.typed_laws.proofs.DeclaredTypes.{TypedAs, typed_text}
 use Rattle.typed_laws.proofs.Facts.{EachIs, each_is_both, each_is_get, sane_text, AgreesAs, agree_text, bases_within, all_chains_end}

@@ -30,7 +30,7 @@ use Rattle.type_derive.specs.inner.Filling.{Making, pure, ◌>=>◌, a_local}
 use Rattle.sts_scope.specs.Numbers.{Numbering, routine_number}
 use Rattle.type_derive.specs.Built.{Site, in_block, board_target, frame_of}
 use Rattle.type_derive.specs.inner.Filled.{amiss, next_given, later_given, asked_given, kind_or_nothing, noted, type_in, part_in, class_in, member_read, spot_of, part_target, routine_of, class_found, in_handler_site, behind_statement, first_site, call_takes, routine, plain_handler, drawing, argument_made, made_tree, made_call, made_given, made_items, made_asked, made_body, made_first, made_optional, made_value, made_locals, made_local, made_statement, made_opening, made_statements}
-use Rattle.type_derive.specs.Formed.{TreeHas, TreesHave, OptionHas, BodyHas, DeclarationHas, DeclarationsHave, StatementHas, FirstHas, StatementsHave}
+use Rattle.typed_laws.specs.Formed.{TreeHas, TreesHave, OptionHas, BodyHas, DeclarationHas, DeclarationsHave, StatementHas, FirstHas, StatementsHave}
 
 abbrev pub Whatever : ℤ → Type 0
 Whatever z = Unit {0}
@@ -225,7 +225,7 @@ module _ (n : ℕ) where
           call_names s g at f args (board_callee tables k s.place f) (λ call. asked s (row_of call).takes args h.1)
           (call_of s (note s g (Call at f args)) f (G s (call_takes tables names k numbers s f) args) h.0 (given s (call_takes tables names k numbers s f) args h.1))
       tree s g (SuperCall at None args) h = makes_pure OfTree amiss (tt, tt)
-      tree s g (SuperCall at (Some m) args) h = super_names s g at m args (super_method tables k s.place.this m) (λ d. given s (takes_at k.entries d) args h)
+      tree s g (SuperCall at (Some m) args) h = super_names s g at m args (super_method k s.place.this m) (λ d. given s (takes_at k.entries d) args h)
       tree s g (Make at x args) h =
           let class = class_found tables names k numbers (finds tables k s.place x) in
           one_of OfTrees OfTree (G s (maker_takes_of k.classes class) args) (λ xs. e.Make (t.Object class) class xs) (given s (maker_takes_of k.classes class) args h) (λ xs p. (tt, p))
@@ -298,8 +298,8 @@ module _ (n : ℕ) where
           (optional inside test h.1) (optional inside step h.2) (statement (in_block inside) true a h.3)
           (λ x y z p q r. both (first_expressions w ++ optional_nodes x ++ optional_nodes y) (expressions z) (both (first_expressions w ++ optional_nodes x) (optional_nodes y) (both (first_expressions w) (optional_nodes x) o p) q) r)) m i
       statement s l (ForOf at fixed x list a) h = λ m i.
-          let u = value_type (kind_or_nothing tables names k numbers (items_of tables names k (type_of tables k s.place Free list))) in
-          let inside : Site = record { place = inner (looped tables names k s.place fixed x list); spots = s.spots ++ Local m ∷ [] } in
+          let u = value_type (kind_or_nothing tables names k numbers (items_of (type_of tables k s.place Free list))) in
+          let inside : Site = record { place = inner (looped tables k s.place fixed x list); spots = s.spots ++ Local m ∷ [] } in
           let last = λ (y : TypedTree) (j : ℕ). a_local (t.ListOf u) (λ o. o) >=> λ (o : ℕ). a_local t.Number (λ o. o) >=> λ (o : ℕ). W inside a >=> λ z. pure (e.ForOf fixed (Local j) y z) in
           let rest = λ (y : TypedTree). a_local u (λ o. o) >=> λ j. last y j in
           makes_then OfTree OfStatement (M s None list) rest (tree s None list h.0)

@@ -13,7 +13,7 @@ use Rattle.sts_scope.specs.Kinds.{number, boolean, text, nothing, object, array,
 use Rattle.sts_scope.specs.Failures.{Failure, ◌then◌}
 use Rattle.sts_scope.specs.Places.{hidden}
 use Rattle.sts_scope.specs.Rules.{none_taken, is_nothing, is_boolean}
-use Rattle.typed_laws.specs.Stands.{is_proper_base, IsProper}
+use Rattle.typed_laws.proofs.Stands.{is_proper_base, IsProper}
 use Rattle.typed_laws.proofs.OneNode.{if_some, same_is, same_types}
 use Rattle.typed_laws.proofs.Names.{some_is}
 use Rattle.typed_laws.proofs.Typed.{last, first}

@@ -42,9 +42,9 @@ use Rattle.type_derive.specs.inner.Filling.{Making, pure, ◌>=>◌, a_local}
 use Rattle.sts_scope.specs.Numbers.{Numbering, field_names, slot_names, place_among, routine_number}
 use Rattle.type_derive.specs.Built.{Site, spots_from, board_target, frame_of}
 use Rattle.type_derive.specs.inner.Filled.{amiss, in_handler_site, first_site, made_tree, made_given, made_asked, made_call, type_in, part_in, class_in, member_read, part_target, part_takes, routine_of, routine_takes, class_found, call_takes, drawing}
-use Rattle.type_derive.specs.Formed.{IsFormed, AreFormed}
-use Rattle.typed_laws.specs.Stands.{IsProper, EachProper, Stands}
-use Rattle.type_derive.specs.Libraries.{taken}
+use Rattle.typed_laws.proofs.FormedParts.{IsFormed, AreFormed}
+use Rattle.typed_laws.proofs.Stands.{IsProper, EachProper, Stands}
+use Rattle.typed_laws.specs.Libraries.{taken}
 use Rattle.typed_laws.proofs.OneNode.{both_true, either_true, if_gives, if_some, if_cases, same_types, works, array_type, class_type}
 use Rattle.typed_laws.proofs.Typed.{typed, first, of_call, call_type as type_of_call}
 use Rattle.typed_laws.proofs.Makings.{Gives, gives_pure, gives_bind, gives_as, good_free, good_as}
@@ -172,7 +172,7 @@ module _ (tables : Tables) (names : Naming) (k : Known) (numbers : Numbering) (P
       subst (λ (y : StaticType). G y n) (sym kind) (subst (λ (l : ValueType). G v l) (sym same) base)
 
   -- calls
-  pub function_call : (S : Setting) (known : List ℕ) (s : Site) (args : Trees) (f : Found) (d : Callee) (u : StaticType) (n : ValueType) → Real k s.place f → named_callee tables k f ≡ Some d → d.gives ≡ Some u → n ≡ value_type u
+  pub function_call : (S : Setting) (known : List ℕ) (s : Site) (args : Trees) (f : Found) (d : Callee) (u : StaticType) (n : ValueType) → Real k s.place f → named_callee k f ≡ Some d → d.gives ≡ Some u → n ≡ value_type u
       → Gives P (AreGiven P S known (parameters_of (value_types d.takes))) (handlers_of args) (made_given tables names k numbers s d.takes args)
       → Gives P (Good S known (value_type u)) (handlers_of args) (made_given tables names k numbers s (routine_takes tables names k numbers f) args >=> λ xs. pure (e.Call n (c.Function (routine_of tables names k numbers f)) xs))
   function_call S known s args (found.Function i) d u n r q g same gives =
@@ -204,7 +204,7 @@ module _ (tables : Tables) (names : Naming) (k : Known) (numbers : Numbering) (P
   popped S known n x (e.more z zs) p q g = absurd g
 
   -- what a method call is, with its arguments
-  sent_good : (S : Setting) (known : List ℕ) (v u : StaticType) (m : ℕ) (n : ValueType) (x : TypedTree) (xs : TypedTrees) (f : Part) (d : Callee) → Good S known (value_type v) x → HasPart k v m f → part_callee tables k f ≡ Some d
+  sent_good : (S : Setting) (known : List ℕ) (v u : StaticType) (m : ℕ) (n : ValueType) (x : TypedTree) (xs : TypedTrees) (f : Part) (d : Callee) → Good S known (value_type v) x → HasPart k v m f → part_callee k f ≡ Some d
       → d.gives ≡ Some u → n ≡ value_type u → AreGiven P S known (parameters_of (value_types d.takes)) xs
       → Good S known (value_type u) (e.Call n (part_target tables names k numbers f (unwrap_or (class_of v) 0) m) (e.more x xs))
   sent_good S known v u m n x xs (part.Method i) d g has q r same given =
@@ -299,12 +299,12 @@ module _ (tables : Tables) (names : Naming) (k : Known) (numbers : Numbering) (P
   assign_suits (Some op) v r u (inr i) p h = assign_operated op v r u (operate k.classes op v r) i p refl h
 
   -- `super.m(..)`, `new`
-  super_this : (self : Self) (m d : ℕ) → super_method tables k self m ≡ Some d → (i : ℕ) × (self ≡ this.Object i) × (super_method tables k (this.Object i) m ≡ Some d)
+  super_this : (self : Self) (m d : ℕ) → super_method k self m ≡ Some d → (i : ℕ) × (self ≡ this.Object i) × (super_method k (this.Object i) m ≡ Some d)
   super_this (this.Object i) m d h = (i, refl, h)
   super_this (this.Hidden i) m d h = cc
   super_this this.Nowhere m d h = cc
 
-  super_good : (S : Setting) (known : List ℕ) (s : Site) (m d : ℕ) (u : StaticType) (n : ValueType) (xs : TypedTrees) → Stand S known s → super_method tables k s.place.this m ≡ Some d → kind_at k d ≡ Some u → n ≡ value_type u
+  super_good : (S : Setting) (known : List ℕ) (s : Site) (m d : ℕ) (u : StaticType) (n : ValueType) (xs : TypedTrees) → Stand S known s → super_method k s.place.this m ≡ Some d → kind_at k d ≡ Some u → n ≡ value_type u
       → AreGiven P S known (parameters_of (value_types (takes_at k.entries d))) xs → Good S known (value_type u) (e.SuperCall n (routine_number numbers d) xs)
   super_good S known s m d u n xs at q h same_n given =
       let (i, self, r) = super_this s.place.this m d q in
@@ -313,7 +313,7 @@ module _ (tables : Tables) (names : Naming) (k : Known) (numbers : Numbering) (P
       subst (λ (y : ValueType). IsMember P base (routine_number numbers d) (value_types (takes_at k.entries d)) y) (sym same_n) member in
       ((value_types (takes_at k.entries d), (i, class, base, slot, above, at.this i self, has, based, has_above, stands, member_n), given), same_n)
 
-  pub make_good : (S : Setting) (known : List ℕ) (s : Site) (f : Found) (d : Callee) (u : StaticType) (xs : TypedTrees) → Real k s.place f → made tables k f ≡ Some d → d.gives ≡ Some u
+  pub make_good : (S : Setting) (known : List ℕ) (s : Site) (f : Found) (d : Callee) (u : StaticType) (xs : TypedTrees) → Real k s.place f → made k f ≡ Some d → d.gives ≡ Some u
       → AreGiven P S known (parameters_of (value_types d.takes)) xs → Good S known (value_type u) (e.Make (t.Object (class_found tables names k numbers f)) (class_found tables names k numbers f) xs)
   make_good S known s (found.Class i) d u xs r q h given =
       let is : callee (maker_takes_of k.classes i) (Some (object i)) ≡ d = some_is _ d q in
@@ -327,7 +327,7 @@ module _ (tables : Tables) (names : Naming) (k : Known) (numbers : Numbering) (P
   make_good S known s found.Captured d u xs r q h given = cc
   make_good S known s found.Unknown d u xs r q h given = cc
 
-  pub make_takes : (s : Site) (f : Found) (d : Callee) → made tables k f ≡ Some d → maker_takes_of k.classes (class_found tables names k numbers f) ≡ d.takes
+  pub make_takes : (s : Site) (f : Found) (d : Callee) → made k f ≡ Some d → maker_takes_of k.classes (class_found tables names k numbers f) ≡ d.takes
   make_takes s (found.Class i) d q = ap (λ (y : Callee). y.takes) (some_is _ d q)
   make_takes s (found.Local i) d q = cc
   make_takes s (found.Global i) d q = cc
@@ -336,7 +336,7 @@ module _ (tables : Tables) (names : Naming) (k : Known) (numbers : Numbering) (P
   make_takes s found.Unknown d q = cc
 
   -- what callees take is of types that values have
-  pub takes_of_found : (f : Found) (d : Callee) → named_callee tables k f ≡ Some d → EachProper d.takes
+  pub takes_of_found : (f : Found) (d : Callee) → named_callee k f ≡ Some d → EachProper d.takes
   takes_of_found (found.Function i) d q = subst (λ (y : Callee). EachProper y.takes) (some_is _ d q) (st.takes_proper i)
   takes_of_found (found.Local i) d q = cc
   takes_of_found (found.Global i) d q = cc
@@ -344,7 +344,7 @@ module _ (tables : Tables) (names : Naming) (k : Known) (numbers : Numbering) (P
   takes_of_found found.Captured d q = cc
   takes_of_found found.Unknown d q = cc
 
-  pub takes_of_part : (v : StaticType) (m : ℕ) (f : Part) (d : Callee) → IsProper v → HasPart k v m f → part_callee tables k f ≡ Some d → EachProper d.takes
+  pub takes_of_part : (v : StaticType) (m : ℕ) (f : Part) (d : Callee) → IsProper v → HasPart k v m f → part_callee k f ≡ Some d → EachProper d.takes
   takes_of_part v m (part.Method i) d p has q = subst (λ (y : Callee). EachProper y.takes) (some_is _ d q) (st.takes_proper i)
   takes_of_part v m (part.Push y) d p has q = subst (λ (z : Callee). EachProper z.takes) (some_is _ d q) (subst IsProper (sym has.1) p, tt)
   takes_of_part v m (part.Pop y) d p has q = subst (λ (z : Callee). EachProper z.takes) (some_is _ d q) tt
@@ -352,7 +352,7 @@ module _ (tables : Tables) (names : Naming) (k : Known) (numbers : Numbering) (P
   takes_of_part v m part.Length d p has q = cc
   takes_of_part v m part.Missing d p has q = cc
 
-  pub takes_of_made : (f : Found) (d : Callee) → made tables k f ≡ Some d → EachProper d.takes
+  pub takes_of_made : (f : Found) (d : Callee) → made k f ≡ Some d → EachProper d.takes
   takes_of_made (found.Class i) d q = subst (λ (y : Callee). EachProper y.takes) (some_is _ d q) (st.makers_proper i)
   takes_of_made (found.Local i) d q = cc
   takes_of_made (found.Global i) d q = cc
@@ -360,7 +360,7 @@ module _ (tables : Tables) (names : Naming) (k : Known) (numbers : Numbering) (P
   takes_of_made found.Captured d q = cc
   takes_of_made found.Unknown d q = cc
 
-  part_takes_are : (f : Part) (d : Callee) → part_callee tables k f ≡ Some d → part_takes tables names k numbers f ≡ d.takes
+  part_takes_are : (f : Part) (d : Callee) → part_callee k f ≡ Some d → part_takes tables names k numbers f ≡ d.takes
   part_takes_are (part.Method i) d q = ap (λ (y : Callee). y.takes) (some_is _ d q)
   part_takes_are (part.Push y) d q = ap (λ (z : Callee). z.takes) (some_is _ d q)
   part_takes_are (part.Pop y) d q = ap (λ (z : Callee). z.takes) (some_is _ d q)
@@ -480,7 +480,7 @@ module _ (tables : Tables) (names : Naming) (k : Known) (numbers : Numbering) (P
   serves_true true code at h = refl
   serves_true false code at h = cc
 
-  pub served_so : (p : NameScope) (f : Found) (at : ℕ) → names_function tables k f ≡ true → (if serves k f then None else own (name_kind k p f) (why_named k Served f) at) ≡ None → serves k f ≡ true
+  pub served_so : (p : NameScope) (f : Found) (at : ℕ) → names_function f ≡ true → (if serves k f then None else own (name_kind k p f) (why_named k Served f) at) ≡ None → serves k f ≡ true
   served_so p (found.Function d) at h bad = serves_true (serves k (found.Function d)) (why_named k Served (found.Function d)) at bad
   served_so p (found.Local i) at h bad = cc
   served_so p (found.Global i) at h bad = cc
@@ -566,8 +566,8 @@ module _ (tables : Tables) (names : Naming) (k : Known) (numbers : Numbering) (P
       read_made S known s a m (handlers a) v u n (λ l. IsTarget P S known l × (w.type_of l ≡ value_type u)) (free v r) r same_n
       (λ x l. field_target S known v u m x (part_of tables.names k v m) (part_may (ty s Free a) v m r may) l (has_part k tables.names v m) q1)
 
-  pub super : (S : Setting) (known : List ℕ) (s : Site) (g : Option StaticType) (m : ℕ) (args : Trees) (u : StaticType) (n : ValueType) (d : Option ℕ) → Stand S known s → AreFormed args → super_method tables k s.place.this m ≡ d
-      → failures tables names k s.place [] args ≡ None → called tables k (d >>= λ j. Some (callee (takes_at k.entries j) (kind_at k j))) (types_of tables k s.place args) ≡ Some u → n ≡ value_type u → IsProper u → ArgumentsTyped S known s args
+  pub super : (S : Setting) (known : List ℕ) (s : Site) (g : Option StaticType) (m : ℕ) (args : Trees) (u : StaticType) (n : ValueType) (d : Option ℕ) → Stand S known s → AreFormed args → super_method k s.place.this m ≡ d
+      → failures tables names k s.place [] args ≡ None → called k (d >>= λ j. Some (callee (takes_at k.entries j) (kind_at k j))) (types_of tables k s.place args) ≡ Some u → n ≡ value_type u → IsProper u → ArgumentsTyped S known s args
       → Gives P (Good S known (value_type (seen g u))) (handlers_of args)
       (elim d [ None ↦ pure amiss | Some j ↦ made_given tables names k numbers s (takes_at k.entries j) args >=> λ xs. pure (e.SuperCall n (routine_number numbers j) xs) ])
   super S known s g m args u n None at f is h q same_n p typed = cc
@@ -599,7 +599,7 @@ module _ (tables : Tables) (names : Naming) (k : Known) (numbers : Numbering) (P
       (omega (arith, none_before))
 
   -- a method's call, where its object is well typed
-  pub member_call : (S : Setting) (known : List ℕ) (s : Site) (a : Tree) (m : ℕ) (args : Trees) (us : List StaticType) (v u : StaticType) (d : Callee) (n : ValueType) → Stand S known s → ty s Free a ≡ Some v → part_callee tables k (part_of tables.names k v m) ≡ Some d
+  pub member_call : (S : Setting) (known : List ℕ) (s : Site) (a : Tree) (m : ℕ) (args : Trees) (us : List StaticType) (v u : StaticType) (d : Callee) (n : ValueType) → Stand S known s → ty s Free a ≡ Some v → part_callee k (part_of tables.names k v m) ≡ Some d
       → d.gives ≡ Some u → n ≡ value_type u → Gives P (Good S known (value_type v)) (handlers a) (mk s None a)
       → Gives P (AreGiven P S known (parameters_of (value_types d.takes))) (handlers_of args) (made_given tables names k numbers s d.takes args)
       → Gives P (Good S known (value_type u)) (handlers a + (handlers_of args + 0))

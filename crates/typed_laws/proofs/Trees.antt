@@ -41,8 +41,8 @@ use Rattle.type_derive.specs.inner.Filling.{Making, pure, ◌>=>◌, a_local}
 use Rattle.sts_scope.specs.Numbers.{Numbering}
 use Rattle.type_derive.specs.Built.{Site, in_block, spots_from}
 use Rattle.type_derive.specs.inner.Filled.{in_handler_site, behind_statement, first_site, made_first, made_optional, made_value, made_locals, made_local, made_statement, made_opening, made_statements, made_tree, made_given, made_items, made_asked, noted, type_in, part_in, class_in, part_target, part_takes, routine_of, routine_takes, class_found, spot_of, plain_handler, drawing, argument_made}
-use Rattle.type_derive.specs.Formed.{IsFormed, AreFormed, MayBeFormed, AreFormedDeclarations, IsFormedIn, IsFormedFirst, AreFormedIn}
-use Rattle.typed_laws.specs.Stands.{is_proper_base, IsProper, EachProper, Stands}
+use Rattle.typed_laws.proofs.FormedParts.{IsFormed, AreFormed, MayBeFormed, AreFormedDeclarations, IsFormedIn, IsFormedFirst, AreFormedIn}
+use Rattle.typed_laws.proofs.Stands.{is_proper_base, IsProper, EachProper, Stands}
 use Rattle.typed_laws.proofs.OneNode.{both_true, same_is, works, prefixes, joins, chooses, counts, elements, array_type, arrayed}
 use Rattle.typed_laws.proofs.Typed.{typed, last, first, unless_true, own_has, member_free}
 use Rattle.typed_laws.proofs.Makings.{IsInner, Inners, Gives, gives_pure, gives_bind, gives_as, kept_all, good_pure, good_bind, good_bind_at, good_free, good_local, good_as}
@@ -126,12 +126,12 @@ module _ (tables : Tables) (names : Naming) (k : Known) (numbers : Numbering) (P
 
   -- in the body of a `for of`
   abbrev looped_place : Site → Bool → ℕ → Tree → NameScope
-  looped_place s fixed x list = looped tables names k s.place fixed x list
+  looped_place s fixed x list = looped tables k s.place fixed x list
 
-  for_stand : (S : Setting) (known : List ℕ) (s : Site) (fixed : Bool) (x : ℕ) (list : Tree) (v : StaticType) (m : ℕ) → Stand S known s → items_of tables names k (ty s Free list) ≡ Some (item v) → entry S.routine.locals m ≡ Some (value_type (item v)) → IsProper v
+  for_stand : (S : Setting) (known : List ℕ) (s : Site) (fixed : Bool) (x : ℕ) (list : Tree) (v : StaticType) (m : ℕ) → Stand S known s → items_of (ty s Free list) ≡ Some (item v) → entry S.routine.locals m ≡ Some (value_type (item v)) → IsProper v
       → Stand S (m ∷ known) (record { place = inner (looped_place s fixed x list); spots = s.spots ++ Local m ∷ [] })
   for_stand S known s fixed x list v m at q has p =
-      let at1 = at_local tables names k numbers P st S known (in_block s) x (items_of tables names k (ty s Free list)) fixed m (at_block tables names k numbers P st S known s at)
+      let at1 = at_local tables names k numbers P st S known (in_block s) x (items_of (ty s Free list)) fixed m (at_block tables names k numbers P st S known s at)
       (λ l lq. let il : item v ≡ l = some_is (item v) l (sym q ∙ lq) in (has ∙ ap (λ (y : StaticType). Some (value_type y)) il, subst IsProper il p)) in
       record { even = at1.even; here = at1.here; proper = at1.proper; this = at1.this }
 
@@ -282,12 +282,12 @@ module _ (tables : Tables) (names : Naming) (k : Known) (numbers : Numbering) (P
         (λ takes us p' h' q' go. given S known s takes us args at f.1 p' h' q' go) (λ ps h' q' y. asked S known s ps args at f.1 h' q' y)
     tree S known s g (SuperCall i None args) u at f g' h q z = cc
     tree S known s g (SuperCall i (Some m) args) u at f g' h q z =
-        super tables names k numbers P st S known s g m args u (noted tables names k numbers s g (SuperCall i (Some m) args)) (super_method tables k s.place.this m) at f refl (first (failures tables names k s.place [] args) _ h) q
+        super tables names k numbers P st S known s g m args u (noted tables names k numbers s g (SuperCall i (Some m) args)) (super_method k s.place.this m) at f refl (first (failures tables names k s.place [] args) _ h) q
         (noted_is (ty s (kind_role g) (SuperCall i (Some m) args)) u q) (free_proper tables names k numbers P st S known s at (SuperCall i (Some m) args) u q)
         (λ takes us p' h' q' go. given S known s takes us args at f p' h' q' go)
     tree S known s g (Make i x args) u at f g' h q z =
         let l : Found = finds tables k s.place x in
-        let (d, us, is, ts, go, result) = called_parts tables k (made tables k l) (types_of tables k s.place args) u q in
+        let (d, us, is, ts, go, result) = called_parts tables k (made k l) (types_of tables k s.place args) u q in
         let ha : failures tables names k s.place [] args ≡ None = first (failures tables names k s.place [] args) _ h in
         let class : ℕ = class_found tables names k numbers l in
         let Q : TypedTree → Type 0 = Good S known (value_type u) in
@@ -386,13 +386,13 @@ module _ (tables : Tables) (names : Naming) (k : Known) (numbers : Numbering) (P
     call S known s g i c' args u n (Some b) at f is h q same_n p typed asked' = board_call tables names k numbers P st S known s g i c' args u n b is h q same_n p asked'
     call S known s g i (Name j x) args u n None at f is h q same_n p typed asked' =
         let l : Found = finds tables k s.place x in
-        let (d, us, q1, ts, go, result) = called_parts tables k (named_callee tables k l) (types_of tables k s.place args) u q in
+        let (d, us, q1, ts, go, result) = called_parts tables k (named_callee k l) (types_of tables k s.place args) u q in
         let (hf, ha, ho) = parts2 (bad s Called (Name j x)) (failures tables names k s.place [] args) _ h in
         seen_as tables names k numbers P st S known g u (handlers_of args) (0 + handlers_of args) (made_given tables names k numbers s (routine_takes tables names k numbers l) args >=> λ xs. pure (e.Call n (c.Function (routine_of tables names k numbers l)) xs)) p
         (function_call tables names k numbers P st S known s args l d u n (real k tables s.place x) q1 result same_n (typed d.takes us (takes_of_found tables names k numbers P st l d q1) ha ts go)) (omega arith)
     call S known s g i (Member j a m) args u n None at f is h q same_n p typed asked' =
         let (d, us, q1, ts, go, result) = called_parts tables k (callee_of tables k s.place (Member j a m)) (types_of tables k s.place args) u q in
-        let (v, r, q2) = bind_some (ty s Free a) (λ v. part_callee tables k (part_of tables.names k v m)) d q1 in
+        let (v, r, q2) = bind_some (ty s Free a) (λ v. part_callee k (part_of tables.names k v m)) d q1 in
         let (hf, ha, ho) = parts2 (bad s Called (Member j a m)) (failures tables names k s.place [] args) _ h in
         let free_a : bad s Free a ≡ None = member_free tables names k s.place Called j a m v hf r in
         let takes_so : EachProper d.takes = takes_of_part tables names k numbers P st v m (part_of tables.names k v m) d (free_proper tables names k numbers P st S known s at a v r) (has_part k tables.names v m) q2 in
@@ -540,7 +540,7 @@ module _ (tables : Tables) (names : Naming) (k : Known) (numbers : Numbering) (P
         (λ o p. subst (λ (y : StaticType). w.IsInitial P S known o (value_type y)) (sym uv) p) (omega arith)
 
     -- the tests and steps of a `for`
-    test_typed : (S : Setting) (known : List ℕ) (s : Site) (a : OptionalTree) (i : ℕ) → Stand S known s → MayBeFormed a → optional_failure tables names k s.place a ≡ None → test_failure tables names k s.place a i ≡ None
+    test_typed : (S : Setting) (known : List ℕ) (s : Site) (a : OptionalTree) (i : ℕ) → Stand S known s → MayBeFormed a → optional_failure tables names k s.place a ≡ None → test_failure tables k s.place a i ≡ None
         → Gives P (w.MayTest P S known) (optional_handlers a) (made_optional tables names k numbers s a)
     test_typed S known s absent i at f h h1 = gives_pure P (w.MayTest P S known) None tt
     test_typed S known s (present a) i at f h h1 =
@@ -587,7 +587,7 @@ module _ (tables : Tables) (names : Naming) (k : Known) (numbers : Numbering) (P
         let a : Declaration = Declare i x shape one' in
         let later : Option Failure = declarations_failure tables names k (after tables names k p (Let 0 fixed (next a ended))) fixed rest in
         let here : Option Failure = declaration_failure tables names k p a in
-        let (hw, hi, hl, hb) = parts3 (written_failure names i shape) (initial_failure tables names k p shape one') (own_local tables names k p x i) (own_bound tables names k p shape one' i) (first here later h) in
+        let (hw, hi, hl, hb) = parts3 (written_failure names i shape) (initial_failure tables names k p shape one') (own_local tables p x i) (own_bound tables names k p shape one' i) (first here later h) in
         let hr : later ≡ None = last here later h in
         let (u, q, pu) = bound_known S known s shape one' i at hw hb in
         let v : ValueType = value_type u in
@@ -713,8 +713,8 @@ module _ (tables : Tables) (names : Naming) (k : Known) (numbers : Numbering) (P
         let B : Option Failure = optional_failure tables names k s1.place test in
         let C : Option Failure = optional_failure tables names k s1.place step in
         let D : Option Failure = statement_failure tables names k (inner s1.place) a in
-        let E : Option Failure = test_failure tables names k s1.place test i in
-        let h' : (A then B then C then D then E) ≡ None = subst (λ (p : NameScope). (A then optional_failure tables names k p test then optional_failure tables names k p step then statement_failure tables names k (inner p) a then test_failure tables names k p test i) ≡ None) (first_place tables names k numbers P st m s0 one') h in
+        let E : Option Failure = test_failure tables k s1.place test i in
+        let h' : (A then B then C then D then E) ≡ None = subst (λ (p : NameScope). (A then optional_failure tables names k p test then optional_failure tables names k p step then statement_failure tables names k (inner p) a then test_failure tables k p test i) ≡ None) (first_place tables names k numbers P st m s0 one') h in
         let (hA, hB, hC, hD, hE) = parts4 A B C D E h' in
         let at0 : Stand S known s0 = at_block tables names k numbers P st S known s at in
         let F0 : ℕ = first_handlers one' in
@@ -740,9 +740,9 @@ module _ (tables : Tables) (names : Naming) (k : Known) (numbers : Numbering) (P
         let (hl, ha, hd, ho) = parts3 (bad s Free list) (statement_failure tables names k (inner p1) a) (unless (not (is_dollar tables.names x)) UnknownName i) (unless (is_list (ty s Free list)) Mismatch i) h in
         let (v, q, av) = list_is tables names k numbers P st (ty s Free list) (unless_true (is_list (ty s Free list)) Mismatch i ho) in
         let pv : IsProper v = free_proper tables names k numbers P st S known s at list v q in
-        let items_so : items_of tables names k (ty s Free list) ≡ Some (item v) = ap (λ (o : Option StaticType). items_of tables names k o) q ∙ ap (λ (y : Bool). let o : Option StaticType = if y then Some (item v) else None in o) av in
-        let u : ValueType = value_type (unwrap_or (items_of tables names k (ty s Free list)) nothing) in
-        let same_u : u ≡ value_type (item v) = noted_is (items_of tables names k (ty s Free list)) (item v) items_so in
+        let items_so : items_of (ty s Free list) ≡ Some (item v) = ap (λ (o : Option StaticType). items_of o) q ∙ ap (λ (y : Bool). let o : Option StaticType = if y then Some (item v) else None in o) av in
+        let u : ValueType = value_type (unwrap_or (items_of (ty s Free list)) nothing) in
+        let same_u : u ≡ value_type (item v) = noted_is (items_of (ty s Free list)) (item v) items_so in
         let s1 : Site = record { place = inner p1; spots = s.spots ++ Local m ∷ [] } in
         let J : ℕ = statement_handlers a in
         let G : ValueType → Type 0 = λ y. Built P S R w'.declared [] (handlers list + (J + 0)) m n

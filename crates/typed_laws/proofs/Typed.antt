@@ -70,7 +70,7 @@ module _ (tables : Tables) (names : Naming) (k : Known) where
   abbrev pub call_type : NameScope → Tree → Trees → Option BoardCall → Option StaticType
   call_type p f args b = elim b [
     | Some call ↦ if are_given tables k p (row_of call).takes args then Some (board_kind (row_of call).gives) else None
-    | None ↦ called tables k (callee_of tables k p f) (types_of tables k p args)
+    | None ↦ called k (callee_of tables k p f) (types_of tables k p args)
   ]
 
   abbrev call_cause : NameScope → Tree → Trees → Option BoardCall → Code

@@ -21,13 +21,14 @@ use Rattle.type_derive.specs.Typing.{space_of, space, own_call, board_callee, �
 use Rattle.type_derive.specs.Making.{Made}
 use Rattle.type_derive.specs.inner.Filling.{◌>=>◌}
 use Rattle.type_derive.specs.Built.{Site}
-use Rattle.type_derive.specs.inner.Filled.{behind_statement, made_tree, made_asked, made_statement, made_statements, made_locals, made_local, made_first}
+use Rattle.type_derive.specs.inner.Filled.{behind_statement, made_tree, made_asked, made_statement, made_statements, made_locals, made_local, made_first, site}
 use Rattle.sts_scope.specs.Numbers.{Numbering, numbering}
-use Rattle.type_derive.specs.inner.FilledPrograms.{site, items_made, library_made}
+use Rattle.typed_laws.specs.inner.FilledPrograms.{items_made, library_made}
 use Rattle.sts_scope.specs.Scopes.{all_names, library_classes}
 use Rattle.sts_scope.specs.Handlers.{all_routines}
-use Rattle.type_derive.specs.Accepted.{AreDerived, known, main_routine}
-use Rattle.type_derive.specs.inner.FilledTexts.{filled_program}
+use Rattle.type_derive.specs.Derived.{AreDerived, known}
+use Rattle.typed_laws.specs.Accepted.{main_routine}
+use Rattle.typed_laws.specs.inner.FilledTexts.{filled_program}
 use Rattle.sts_prelude.specs.Library as l
 use Rattle.sts_prelude.proofs.Laws.{own_tokens}
 use Rattle.typed_laws.proofs.Prelude.{L, names, k, T, show, basic, number_glyph, text_glyph, serial}

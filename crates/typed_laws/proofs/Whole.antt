@@ -21,18 +21,19 @@ use Rattle.sts_scope.specs.Headings.{headings_failure}
 use Rattle.sts_scope.specs.Scopes.{all_names, library_classes}
 use Rattle.sts_scope.specs.Rules.{kind_at}
 use Rattle.type_derive.specs.Returns.{parameter_locals, within}
-use Rattle.type_derive.specs.Derived.{Source, sources_from, follows}
+use Rattle.type_derive.specs.Derived.{Source, sources_from, follows, known, all_sources, AreDerived}
 use Rattle.type_derive.specs.Nodes.{statements_failure}
 use Rattle.type_derive.specs.Passes.{item_nodes, nodes_failure}
-use Rattle.type_derive.specs.Formed.{IsFormedProgram}
+use Rattle.typed_laws.specs.Formed.{IsFormedProgram}
 use Rattle.sts_scope.specs.Handlers.{statements_handlers, item_routines, all_routines}
 use Rattle.type_derive.specs.Making.{Made as Made'}
 use Rattle.sts_scope.specs.Numbers.{Numbering, numbering, numbers_from, makers_from, item_numbers}
-use Rattle.type_derive.specs.inner.FilledPrograms.{function_made, class_made, main_made, items_made, library_made}
-use Rattle.type_derive.specs.Accepted.{known, all_sources, AreDerived, main_routine, text_failure}
-use Rattle.type_derive.specs.inner.FilledTexts.{filled_program}
-use Rattle.typed_laws.specs.Stands.{IsProper}
-use Rattle.type_derive.specs.Libraries.{OnlyFunctions, library_failure, IsLibrary}
+use Rattle.type_derive.specs.inner.Filled.{function_made}
+use Rattle.typed_laws.specs.inner.FilledPrograms.{class_made, main_made, items_made, library_made}
+use Rattle.typed_laws.specs.Accepted.{main_routine, text_failure}
+use Rattle.typed_laws.specs.inner.FilledTexts.{filled_program}
+use Rattle.typed_laws.proofs.Stands.{IsProper}
+use Rattle.typed_laws.specs.Libraries.{OnlyFunctions, library_failure, IsLibrary}
 use Rattle.typed_laws.proofs.BuiltPrograms.{library_so}
 use Rattle.typed_laws.proofs.Typed.{last, first}
 use Rattle.typed_laws.proofs.Makings.{Placed, placed_left, placed_right, kept_all}

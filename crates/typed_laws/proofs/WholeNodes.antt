@@ -25,7 +25,7 @@ use Rattle.type_derive.specs.declared.roles.Role.{Role}
 use Rattle.type_derive.specs.declared.roles.Role.TheVariants.{Free}
 use Rattle.type_derive.specs.Built.{Site, spots_from, behind_statement}
 use Rattle.type_derive.specs.Nodes.{failure, statement_failure, initial_failure, own_local, own_bound, is_list}
-use Rattle.type_derive.specs.Programs.{parameter_spots}
+use Rattle.type_derive.specs.Functions.{parameter_spots}
 use Rattle.type_derive.specs.Returns.{bound, looped, items_of, all_declared, declared, parameter_locals}
 use Rattle.type_derive.specs.Typing.{◌>>=◌, Callee, callee, finds, constant_of, board_callee, named_callee, part_callee, callee_of, super_method, made, called, type_of, types_of, are_given, is_given, board_kind}
 use Rattle.typed_laws.specs.Laws.{IsRead}
@@ -67,7 +67,7 @@ module _ (tables : Tables) (k : Known) (p : NameScope) where
       (v, is, part_whole v m (part_of tables.names k v m) u (has_part k tables.names v m) h1)
 
   -- what is called
-  called_name : (f : Found) (d : Callee) → named_callee tables k f ≡ Some d → IsCalledName f
+  called_name : (f : Found) (d : Callee) → named_callee k f ≡ Some d → IsCalledName f
   called_name (found.Function j) d h = tt
   called_name (found.Local i) d h = cc
   called_name (found.Global j) d h = cc
@@ -75,7 +75,7 @@ module _ (tables : Tables) (k : Known) (p : NameScope) where
   called_name (found.Class c) d h = cc
   called_name found.Unknown d h = cc
 
-  called_part : (v : StaticType) (m : ℕ) (a : Part) (d : Callee) → HasPart k v m a → part_callee tables k a ≡ Some d → IsCalledPart v a
+  called_part : (v : StaticType) (m : ℕ) (a : Part) (d : Callee) → HasPart k v m a → part_callee k a ≡ Some d → IsCalledPart v a
   called_part v m (part.Method j) d (c, is, has) h = (c, is)
   called_part v m (part.Push t) d has h = tt
   called_part v m (part.Pop t) d has h = tt
@@ -86,7 +86,7 @@ module _ (tables : Tables) (k : Known) (p : NameScope) where
   called_tree : (f : Tree) (d : Callee) → callee_of tables k p f ≡ Some d → IsCalledTree tables k p f
   called_tree (Name at x) d h = called_name (finds tables k p x) d h
   called_tree (Member at a m) d h =
-      let (v, is, h1) = bind_some (type_of tables k p Free a) (λ v. part_callee tables k (part_of tables.names k v m)) d h in
+      let (v, is, h1) = bind_some (type_of tables k p Free a) (λ v. part_callee k (part_of tables.names k v m)) d h in
       (v, is, called_part v m (part_of tables.names k v m) d (has_part k tables.names v m) h1)
   called_tree (Num at n) d h = cc
   called_tree (Text at n) d h = cc
@@ -115,14 +115,14 @@ module _ (tables : Tables) (k : Known) (p : NameScope) where
 
   call_whole : (f : Tree) (args : Trees) (b : Option BoardCall) (u : StaticType) → elim b [
     | Some call ↦ if are_given tables k p (row_of call).takes args then Some (board_kind (row_of call).gives) else None
-    | None ↦ called tables k (callee_of tables k p f) (types_of tables k p args)
+    | None ↦ called k (callee_of tables k p f) (types_of tables k p args)
   ] ≡ Some u → CallWhole f args b
   call_whole f args (Some call) u h = if_true (are_given tables k p (row_of call).takes args) (board_kind (row_of call).gives) u h
   call_whole f args None u h =
       let (d, us, is, ts, go, gives) = called_parts tables k (callee_of tables k p f) (types_of tables k p args) u h in
       (called_tree f d is, d, is, (us, ts, go))
 
-  super_whole : (args : Trees) (d : Option ℕ) (u : StaticType) → called tables k (d >>= λ j. Some (callee (takes_at k.entries j) (kind_at k j))) (types_of tables k p args) ≡ Some u
+  super_whole : (args : Trees) (d : Option ℕ) (u : StaticType) → called k (d >>= λ j. Some (callee (takes_at k.entries j) (kind_at k j))) (types_of tables k p args) ≡ Some u
       → (j : ℕ) × (d ≡ Some j) × ArgumentsGo tables k p (takes_at k.entries j) args
   super_whole args None u h = cc
   super_whole args (Some j) u h =
@@ -130,9 +130,9 @@ module _ (tables : Tables) (k : Known) (p : NameScope) where
       let same : callee (takes_at k.entries j) (kind_at k j) ≡ x = some_is _ x is in
       (j, refl, (us, ts, subst (λ (d : Callee). all_go k.classes us d.takes ≡ true) (sym same) go))
 
-  make_whole : (args : Trees) (f : Found) (u : StaticType) → called tables k (made tables k f) (types_of tables k p args) ≡ Some u → (c : ℕ) × (f ≡ found.Class c) × ArgumentsGo tables k p (maker_takes_of k.classes c) args
+  make_whole : (args : Trees) (f : Found) (u : StaticType) → called k (made k f) (types_of tables k p args) ≡ Some u → (c : ℕ) × (f ≡ found.Class c) × ArgumentsGo tables k p (maker_takes_of k.classes c) args
   make_whole args (found.Class c) u h =
-      let (x, us, is, ts, go, gives) = called_parts tables k (made tables k (found.Class c)) (types_of tables k p args) u h in
+      let (x, us, is, ts, go, gives) = called_parts tables k (made k (found.Class c)) (types_of tables k p args) u h in
       let same : callee (maker_takes_of k.classes c) (Some (object c)) ≡ x = some_is _ x is in
       (c, refl, (us, ts, subst (λ (d : Callee). all_go k.classes us d.takes ≡ true) (sym same) go))
   make_whole args (found.Local i) u h = cc
@@ -147,7 +147,7 @@ module _ (tables : Tables) (k : Known) (p : NameScope) where
   typed_whole r (Member at a m) u h = member_whole a m (constant_of tables k p a m) u h
   typed_whole r (Call at f args) u h = call_whole f args (board_callee tables k p f) u h
   typed_whole r (SuperCall at None args) u h = cc
-  typed_whole r (SuperCall at (Some m) args) u h = super_whole args (super_method tables k p.this m) u h
+  typed_whole r (SuperCall at (Some m) args) u h = super_whole args (super_method k p.this m) u h
   typed_whole r (Make at x args) u h = make_whole args (finds tables k p x) u h
   typed_whole r (Items at none) u h = if_true (is_given r) _ u h
   typed_whole r (Items at (more e rest)) u h = tt
@@ -171,23 +171,23 @@ module _ (tables : Tables) (k : Known) (p : NameScope) where
 
   -- types of declared names and of items
   pub bound_whole : (names : Naming) (at x : ℕ) (shape : Option Annotation) (first' : OptionalTree) →
-      (written_failure names at shape then initial_failure tables names k p shape first' then own_local tables names k p x at then own_bound tables names k p shape first' at) ≡ None → IsSome (bound tables names k p shape first')
+      (written_failure names at shape then initial_failure tables names k p shape first' then own_local tables p x at then own_bound tables names k p shape first' at) ≡ None → IsSome (bound tables names k p shape first')
   bound_whole names at x (Some a) first' h =
       let written = first (written_failure names at (Some a)) _ h in
       some (kind_of names a) (own_has (kind_of names a) UnknownName at (last (type_name_failure names a) (own (kind_of names a) UnknownName at) written))
   bound_whole names at x None first' h =
-      let rest = last (initial_failure tables names k p None first') (own_local tables names k p x at then own_bound tables names k p None first' at) h in
-      some (bound tables names k p None first') (own_has (bound tables names k p None first') NeedsType at (last (own_local tables names k p x at) (own_bound tables names k p None first' at) rest))
+      let rest = last (initial_failure tables names k p None first') (own_local tables p x at then own_bound tables names k p None first' at) h in
+      some (bound tables names k p None first') (own_has (bound tables names k p None first') NeedsType at (last (own_local tables p x at) (own_bound tables names k p None first' at) rest))
 
-  list_whole : (names : Naming) (o : Option StaticType) → is_list o ≡ true → IsSome (items_of tables names k o)
+  list_whole : (names : Naming) (o : Option StaticType) → is_list o ≡ true → IsSome (items_of o)
   list_whole names None h = cc
   list_whole names (Some t) h = ap (λ b. is_some (if b then Some (item t) else None)) h
 
-  pub loop_whole : (names : Naming) (at x : ℕ) (fixed : Bool) (list : Tree) (a : Statement) → statement_failure tables names k p (ForOf at fixed x list a) ≡ None → IsSome (items_of tables names k (type_of tables k p Free list))
+  pub loop_whole : (names : Naming) (at x : ℕ) (fixed : Bool) (list : Tree) (a : Statement) → statement_failure tables names k p (ForOf at fixed x list a) ≡ None → IsSome (items_of (type_of tables k p Free list))
   loop_whole names at x fixed list a h =
       let o = type_of tables k p Free list in
       let A = failure tables names k p Free list in
-      let B = statement_failure tables names k (inner (looped tables names k p fixed x list)) a in
+      let B = statement_failure tables names k (inner (looped tables k p fixed x list)) a in
       let C = unless (not (is_dollar tables.names x)) UnknownName at in
       let D = unless (is_list o) Mismatch at in
       list_whole names o (unless_true (is_list o) Mismatch at (last C D (last B (C then D) (last A (B then C then D) h))))

@@ -25,7 +25,7 @@ use Rattle.sts_scope.specs.Numbers.{Numbering, numbering, is_method, names_from}
 use Rattle.sts_scope.specs.Places.{NameScope}
 use Rattle.sts_scope.specs.Rules.{kind_at}
 use Rattle.sts_scope.specs.Scopes.{all_names, library_classes, is_global, names_of}
-use Rattle.type_derive.specs.Accepted.{known}
+use Rattle.type_derive.specs.Derived.{known}
 use Rattle.type_derive.specs.Passes.{outside_failure, body_failure, constructor_failure, members_nodes, item_nodes, nodes_failure}
 use Rattle.type_derive.specs.Returns.{parameter_locals, within}
 use Rattle.type_derive.specs.Typing.{finds, super_method}
@@ -114,7 +114,7 @@ module _ (tables : Tables) (names : Naming) (k : Known) where
       (whole_item c d i (first A B h) (first C D g), whole_text c' d' rest (last A B h) (last C D g))
 
 -- a method of a base is one
-pub supers : (tables : Tables) (k : Known) (self : This) (m d : ℕ) → super_method tables k self m ≡ Some d → sort_of k.entries d ≡ Some sort.Method
+pub supers : (tables : Tables) (k : Known) (self : This) (m d : ℕ) → super_method k self m ≡ Some d → sort_of k.entries d ≡ Some sort.Method
 supers tables k (this.Object c) m d q = let (at, s) = method_of_is tables k (inherited k.entries k.classes c m) d q in s
 supers tables k (this.Hidden c) m d q = cc
 supers tables k this.Nowhere m d q = cc

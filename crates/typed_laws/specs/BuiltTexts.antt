@@ -2,10 +2,10 @@
 use Rattle.std.specs.Prelude.{◌≡◌, Some, None}
 use Rattle.sts_base.specs.declared.tables.Tables.{Tables}
 use Rattle.sts_syntax.specs.Programs.{Program}
-use Rattle.type_derive.specs.Accepted.{AreDerived, typed, text_failure, refusal}
-use Rattle.type_derive.specs.Derived.{TypeTable}
-use Rattle.type_derive.specs.Libraries.{IsLibrary}
-use Rattle.type_derive.specs.inner.FilledTexts.{filled_program, filled_refusal}
+use Rattle.type_derive.specs.Derived.{AreDerived, TypeTable}
+use Rattle.typed_laws.specs.Accepted.{typed, text_failure, refusal}
+use Rattle.typed_laws.specs.Libraries.{IsLibrary}
+use Rattle.typed_laws.specs.inner.FilledTexts.{filled_program, filled_refusal}
 
 -- Behind a library a text without a failure of headings, overriding methods and nodes has a typed program, whether or not it passes a counted limit: the filled one.
 abbrev pub TextsAreBuilt : Type 0

@@ -13,9 +13,10 @@ use Rattle.type_derive.specs.declared.roles.Role.{Role}
 use Rattle.type_derive.specs.declared.roles.Role.TheVariants.{Free, Given, Called, Served}
 use Rattle.type_derive.specs.Typing.{type_of}
 use Rattle.type_derive.specs.Nodes.{failure}
-use Rattle.type_derive.specs.Formed.{IsFormedProgram}
-use Rattle.type_derive.specs.Accepted.{AreDerived, IsAccepted, typed, text_failure}
-use Rattle.type_derive.specs.Libraries.{IsLibrary}
+use Rattle.typed_laws.specs.Formed.{IsFormedProgram}
+use Rattle.type_derive.specs.Derived.{AreDerived}
+use Rattle.typed_laws.specs.Accepted.{IsAccepted, typed, text_failure}
+use Rattle.typed_laws.specs.Libraries.{IsLibrary}
 use Rattle.typed_laws.specs.OwnFunctions.{FunctionsAreDeclared}
 
 -- a place that reads what stands there

@@ -1,3 +1,7 @@
+pub mod Programs
+pub mod Accepted
+pub mod Formed
+pub mod Libraries
 pub mod BuiltTexts
 pub mod Chains
 pub mod Laws
@@ -5,5 +9,5 @@ pub mod LibraryLaws
 pub mod Needs
 pub mod OwnFunctions
 pub mod Rows
-pub mod Stands
 pub mod WholePrograms
+pub mod inner

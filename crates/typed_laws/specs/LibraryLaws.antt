@@ -9,9 +9,9 @@ use Rattle.sts_syntax.specs.Programs.{Program}
 use Rattle.sts_syntax.specs.Weights.{routines_weight}
 use Rattle.sts_scope.specs.declared.kinds.StaticType.{StaticType}
 use Rattle.sts_scope.specs.Rules.{kind_at}
-use Rattle.type_derive.specs.Accepted.{known, AreDerived}
-use Rattle.type_derive.specs.inner.FilledTexts.{filled_program}
-use Rattle.type_derive.specs.Libraries.{IsLibrary}
+use Rattle.type_derive.specs.Derived.{known, AreDerived}
+use Rattle.typed_laws.specs.inner.FilledTexts.{filled_program}
+use Rattle.typed_laws.specs.Libraries.{IsLibrary}
 use Rattle.sts_grammar.specs.Texts.{no_entries}
 use Rattle.sts_prelude.specs.Library.{library}
 use Rattle.sts_prelude.specs.Spelled as spelled

@@ -72,7 +72,7 @@ module _ (tables : Tables) (k : Known) (p : NameScope) where
   ]
   IsWholeNode r (SuperCall at None args) = ⊥
   IsWholeNode r (SuperCall at (Some m) args) =
-      (d : ℕ) × (super_method tables k p.this m ≡ Some d) × ArgumentsGo (takes_at k.entries d) args
+      (d : ℕ) × (super_method k p.this m ≡ Some d) × ArgumentsGo (takes_at k.entries d) args
   IsWholeNode r (Make at x args) =
       (c : ℕ) × (finds tables k p x ≡ found.Class c) × ArgumentsGo (maker_takes_of k.classes c) args
   IsWholeNode r (Handler at body) = ⊥

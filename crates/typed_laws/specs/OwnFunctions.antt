@@ -17,8 +17,10 @@ use Rattle.sts_scope.specs.Handlers.{all_routines}
 use Rattle.sts_scope.specs.Numbers.{Numbering, numbering, routine_number}
 use Rattle.sts_scope.specs.Rules.{kind_at}
 use Rattle.sts_scope.specs.Scopes.{all_names, library_classes}
-use Rattle.type_derive.specs.Accepted.{known, main_routine}
-use Rattle.type_derive.specs.Programs.{function_made, method_made, items_made}
+use Rattle.type_derive.specs.Derived.{known}
+use Rattle.typed_laws.specs.Accepted.{main_routine}
+use Rattle.type_derive.specs.Functions.{function_made, method_made}
+use Rattle.typed_laws.specs.Programs.{items_made}
 use Rattle.type_derive.specs.Making.{Made}
 
 -- What each declaration of a program does, in text order: a function and a method have their statements, a class, a field and a global have none.

@@ -10,7 +10,8 @@ use Rattle.sts_scope.specs.declared.kinds.StaticType.{StaticType}
 use Rattle.sts_scope.specs.declared.known.Known.{Known}
 use Rattle.sts_scope.specs.Failures.{Failure}
 use Rattle.type_derive.specs.Typing.{◌>>=◌}
-use Rattle.type_derive.specs.Accepted.{refusal, typed, derivation, known}
+use Rattle.typed_laws.specs.Accepted.{refusal, typed}
+use Rattle.type_derive.specs.Derived.{derivation, known}
 
 -- a table of so many declarations, all without a type
 abbrev pub hollow : {A : Type 0} → List A → List (Option StaticType)

@@ -1,4 +1,4 @@
--- What the making of a typed program looks for among the declarations (`Programs` in crates/type_derive), where it is there.
+-- What the making of a typed program looks for among the declarations (`Programs`), where it is there.
 use Rattle.std.specs.Prelude.{◌≡◌, ◌≤◌, ◌<◌, ℕ, ◌+◌, Bool, true, Option, Some, None, List, [], ◌∷◌, length, slice_get, IsSome}
 use Rattle.sts_base.specs.declared.tables.Tables.{Tables}
 use Rattle.sts_syntax.specs.Trees.{Parameter, SuperCall, Trees, Plain, Statements, also, Routine, Does}
@@ -16,8 +16,9 @@ use Rattle.sts_scope.specs.Lookup.{base_of, member_number, sort_of}
 use Rattle.sts_scope.specs.Numbers.{Numbering, global_number, field_names, slot_names, is_listed, place_among}
 use Rattle.sts_scope.specs.Rules.{kind_at}
 use Rattle.sts_scope.specs.Scopes.{is_global, names_of}
-use Rattle.type_derive.specs.Accepted.{AreDerived, text_failure}
-use Rattle.type_derive.specs.Libraries.{OnlyFunctions}
+use Rattle.type_derive.specs.Derived.{AreDerived}
+use Rattle.typed_laws.specs.Accepted.{text_failure}
+use Rattle.typed_laws.specs.Libraries.{OnlyFunctions}
 use Rattle.typed_laws.specs.Chains.{BasesAreClasses}
 
 -- a text is accepted behind a library of functions, with these types of all declarations

@@ -8,8 +8,8 @@ ghost use Rattle.sts_grammar.specs.Units.{IsProgram};
 ghost use Rattle.sts_grammar.specs.Texts.{source};
 ghost use Rattle.sts_syntax.specs.Nodes.{NamesTexts};
 ghost use Rattle.sts_scope.specs.declared.kinds.StaticType.{StaticType};
-ghost use Rattle.type_derive.specs.Formed.{IsFormedProgram, TextsBelow};
-ghost use Rattle.type_derive.specs.inner.FilledTexts.{filled_program};
+ghost use Rattle.typed_laws.specs.Formed.{IsFormedProgram, TextsBelow};
+ghost use Rattle.typed_laws.specs.inner.FilledTexts.{filled_program};
 
 /// A program that the tokens of a text spell is formed: its numbers have 32 bits, `++` and `--` are by one, `break` and `continue` stand in
 /// loops, and first in the head of a `for` stands a declaration or an expression.

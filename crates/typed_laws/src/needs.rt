@@ -18,12 +18,13 @@ ghost use Rattle.sts_scope.specs.Rules.{class_part};
 ghost use Rattle.sts_scope.specs.Scopes.{all_names, library_classes};
 ghost use Rattle.type_derive.specs.declared.roles.Role.{Role};
 ghost use Rattle.type_derive.specs.declared.roles.Role.TheVariants.{Free};
-ghost use Rattle.type_derive.specs.Accepted.{AreDerived, known, text_failure};
+ghost use Rattle.type_derive.specs.Derived.{AreDerived, known};
+ghost use Rattle.typed_laws.specs.Accepted.{text_failure};
 ghost use Rattle.type_derive.specs.Built.{Site, in_block, behind_statement, in_handler_site};
-ghost use Rattle.type_derive.specs.Formed.{IsFormedProgram};
-ghost use Rattle.type_derive.specs.Libraries.{IsLibrary};
+ghost use Rattle.typed_laws.specs.Formed.{IsFormedProgram};
+ghost use Rattle.typed_laws.specs.Libraries.{IsLibrary};
 ghost use Rattle.type_derive.specs.Nodes.{failure, declaration_failure, statement_failure};
-ghost use Rattle.type_derive.specs.Programs.{site};
+ghost use Rattle.type_derive.specs.Functions.{site};
 ghost use Rattle.type_derive.specs.Returns.{bound, looped, items_of};
 ghost use Rattle.type_derive.specs.Typing.{finds, super_method, type_of};
 ghost use Rattle.typed_laws.specs.Laws.{IsRead};
@@ -42,7 +43,7 @@ pub fn nodes_without_a_failure_are_whole()
     ensures loops { (tables : Tables) (names : Naming) (k : Known) (p : NameScope) (at x : ℕ) (fixed : Bool)
         (list : Tree) (a : Statement) →
         statement_failure tables names k p (ForOf at fixed x list a) ≡ None
-        → IsSome (items_of tables names k (type_of tables k p Free list)) }
+        → IsSome (items_of (type_of tables k p Free list)) }
 {}
 
 /// Each local in scope has its spot: outside all functions and where a function or a handler without parameters begins, and then in a block, behind a statement and in a loop.
@@ -61,7 +62,7 @@ pub fn each_local_in_scope_has_a_spot()
     ensures loops { (tables : Tables) (names : Naming) (k : Known) (m x : ℕ) (s : Site) (fixed : Bool) (list : Tree)
         → HasSpots s →
         HasSpots (record {
-          place = inner (looped tables names k s.place fixed x list);
+          place = inner (looped tables k s.place fixed x list);
           spots = s.spots ++ Local m ∷ [];
         }) }
 {}
@@ -95,7 +96,7 @@ pub fn accepted_programs_look_for_nothing_in_vain()
     ensures routines { (tables : Tables) (library text : Program) (kinds : List (Option StaticType))
         → IsAcceptedWith tables library text kinds →
         IsWholeText (all_names library text) (known library text kinds) (library_classes library text) text }
-    ensures supers { (tables : Tables) (k : Known) (this : This) (m d : ℕ) → super_method tables k this m ≡ Some d
+    ensures supers { (tables : Tables) (k : Known) (this : This) (m d : ℕ) → super_method k this m ≡ Some d
         → sort_of k.entries d ≡ Some sort.Method }
     ensures numbers { (library text : Program) (kinds : List (Option StaticType))
         → NumbersAreThere (known library text kinds) (numbering (library ++ text)) }

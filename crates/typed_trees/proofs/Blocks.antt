@@ -10,7 +10,7 @@ use Rattle.sts_scope.specs.Entries.{Naming}
 use Rattle.sts_scope.specs.Places.{NameScope}
 use Rattle.type_derive.specs.Built.{Site, in_block, new_spots}
 use Rattle.type_derive.specs.inner.Filled.{behind_statement}
-use Rattle.type_derive.specs.Moves.{Extends, left}
+use Rattle.type_derive.specs.Scopes.{Extends, left}
 use Rattle.sts_scope.specs.Numbers.{Numbering}
 use Rattle.type_derive.specs.Returns.{after}
 use Rattle.type_derive.proofs.Laws.{after_extends}

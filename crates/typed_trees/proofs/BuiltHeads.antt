@@ -24,9 +24,10 @@ use Rattle.typed_trees.specs.declared.build_heads.Head.{Head}
 use Rattle.typed_trees.specs.declared.build_heads.Head.TheVariants as head
 use Rattle.typed_numbers.specs.Building.{numbering_of}
 use Rattle.typed_trees.specs.Sites as s
-use Rattle.typed_trees.specs.Sites.{tree_made, tree_kind, given_made, items_made, asked_made, made_of, naming}
+use Rattle.typed_trees.specs.Sites.{tree_made, tree_kind, given_made, naming}
+use Rattle.typed_trees.proofs.Nodes.{items_made, asked_made, made_of, head_made}
 use Rattle.typed_trees.specs.Calls as call
-use Rattle.typed_trees.specs.Calls.{Places, Kinds, Alike, Asks, arguments_made, asked_one, served, head_of, head_made, passed_made, object_made, behind_made, head_places, head_node, type_noted, has_list}
+use Rattle.typed_trees.specs.Calls.{Places, Kinds, Alike, Asks, arguments_made, asked_one, served, head_of, passed_made, object_made, behind_made, head_places, head_node, type_noted, has_list}
 use Rattle.typed_trees.proofs.GivenTrees.{next_at, later_at}
 use Rattle.typed_numbers.proofs.Laws.{items_is}
 use Rattle.typed_trees.proofs.Made.{alone}
@@ -248,7 +249,7 @@ head_is p st g (Make at x args) m k is =
     ap (node_of p u h) (kinds_alone p st (rule.maker_takes_of p.known.now.classes class) args m k)
 head_is p st g (SuperCall at None args) m k is = refl
 head_is p st g (SuperCall at (Some x) args) m k is =
-    sym (super_is p st (s.noted (tree_kind p st g (SuperCall at (Some x) args))) at x args m k (typing.super_method p.tables.now p.known.now st.place.this x))
+    sym (super_is p st (s.noted (tree_kind p st g (SuperCall at (Some x) args))) at x args m k (typing.super_method p.known.now st.place.this x))
 head_is p st g (Call at f args) m k is =
     sym (call_made p st (s.noted (tree_kind p st g (Call at f args))) at f args m k (typing.board_callee p.tables.now p.known.now st.place f))
 head_is p st g (Num i v) m k is = absurd (let c : false ≡ true = is in cc)

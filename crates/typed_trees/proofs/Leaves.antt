@@ -25,7 +25,8 @@ use Rattle.typed_trees.specs.declared.build_places.Plan.{Plan}
 use Rattle.typed_trees.specs.Fits.{RoutineFits}
 use Rattle.typed_trees.specs.Steps.{IsBuilt, handler_step}
 use Rattle.typed_trees.specs.Functions as functions
-use Rattle.typed_trees.specs.Sites.{tree_made, body_made, tree_kind, noted, made_of, spot_of, member_read, part_behind, class_behind}
+use Rattle.typed_trees.specs.Sites.{tree_made, body_made, tree_kind, noted, spot_of, member_read, part_behind, class_behind}
+use Rattle.typed_trees.proofs.Nodes.{made_of}
 use Rattle.typed_trees.proofs.Made.{alone}
 use Rattle.typed_trees.proofs.Pieces.{stays, via, via_at}
 

@@ -1,3 +1,4 @@
+pub mod Nodes
 pub mod Blocks
 pub mod BuiltHeads
 pub mod Drawn

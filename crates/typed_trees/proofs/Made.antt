@@ -4,7 +4,7 @@ use Rattle.std.proofs.lemmas.List.{append-nil}
 use Rattle.sts_syntax.specs.Types.{ValueType}
 use Rattle.sts_syntax.specs.TypedTrees.{TypedRoutine}
 use Rattle.type_derive.specs.Making.{Made}
-use Rattle.typed_trees.specs.Sites.{made_of}
+use Rattle.typed_trees.proofs.Nodes.{made_of}
 
 same : {A : Type 0} (x : A) (us vs : List ValueType) (rs ss : List TypedRoutine) → us ≡ vs → rs ≡ ss → made_of x us rs ≡ made_of x vs ss
 same x us vs rs ss h k = ap (λ q. made_of x q rs) h ∙ ap (λ q. made_of x vs q) k

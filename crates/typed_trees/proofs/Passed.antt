@@ -17,7 +17,8 @@ use Rattle.type_derive.specs.inner.Filling.{pure}
 use Rattle.typed_trees.specs.declared.build_heads.Head.{Head}
 use Rattle.typed_trees.specs.declared.build_places.Builder.{Builder}
 use Rattle.typed_trees.specs.declared.build_places.Plan.{Plan}
-use Rattle.typed_trees.specs.Calls.{Kinds, behind_made, object_made, passed_made, head_made, head_of, head_node, has_list, type_noted}
+use Rattle.typed_trees.specs.Calls.{Kinds, behind_made, object_made, passed_made, head_of, head_node, has_list, type_noted}
+use Rattle.typed_trees.proofs.Nodes.{head_made}
 use Rattle.typed_trees.specs.Sites.{tree_made, tree_kind, given_made}
 use Rattle.typed_trees.specs.Steps.{IsBuilt}
 use Rattle.typed_trees.proofs.BuiltHeads.{head_is, kinds_alone}

@@ -103,7 +103,7 @@ module _ (t : Tables) (f : Naming) (k : Known) (w : Numbering) where
         (call0 s (noted t f k w s g (Call at a args)) a (made_given t f k w s (call_takes t f k w s a) args) (given0 s (call_takes t f k w s a) args))
     tree0 s g (SuperCall at None args) = λ m n. refl
     tree0 s g (SuperCall at (Some x) args) =
-        cases0 (super_method t k s.place.this x)
+        cases0 (super_method k s.place.this x)
         (λ d. made_given t f k w s (takes_at k.entries d) args >=> λ xs. pure (e.SuperCall (noted t f k w s g (SuperCall at (Some x) args)) (routine_number w d) xs))
         (pure amiss) (λ d. one0 (made_given t f k w s (takes_at k.entries d) args) (λ xs. e.SuperCall (noted t f k w s g (SuperCall at (Some x) args)) (routine_number w d) xs) (given0 s (takes_at k.entries d) args)) (pure0 amiss)
     tree0 s g (Make at x args) =

@@ -105,7 +105,7 @@ has_list a = false
 abbrev pub super_head : Plan → b.Site → Option ℕ → Option Head
 super_head p st None = None
 super_head p st (Some m) =
-    elim (typing.super_method p.tables.now p.known.now st.place.this m) [ None ↦ None | Some d ↦ Some (head.Super d) ]
+    elim (typing.super_method p.known.now st.place.this m) [ None ↦ None | Some d ↦ Some (head.Super d) ]
 
 -- What a node with a list is. It is none where the tree has a failure, and then nothing is made of its parts.
 unfoldable pub head_of : Plan → b.Site → Tree → Option Head
@@ -175,8 +175,3 @@ passed_made p st h (SuperCall at m args) = behind_made p st (head_places p h) no
 passed_made p st h (Call at f args) =
     object_made p st (has_object h) f >=> λ ys. behind_made p st (head_places p h) ys args
 passed_made p st h x = pure none
-
--- the whole node
-unfoldable pub head_made : Plan → b.Site → ValueType → Option Head → Tree → Making TypedTree
-head_made p st u None x = pure b.amiss
-head_made p st u (Some h) x = passed_made p st h x >=> λ xs. pure (head_node p u h xs)

@@ -1,10 +1,9 @@
 -- The definitions of typed trees, over what the builder knows.
 use Rattle.std.specs.Prelude.{◌≡◌, ℕ, ◌^◌, ◌<◌, Bool, true, Option, List, length, unwrap_or}
 use Rattle.sts_syntax.specs.Annotations.{Annotation}
-use Rattle.sts_syntax.specs.BoardTable.{BoardParameter}
-use Rattle.sts_syntax.specs.Trees.{Tree, Trees, OptionalTree, Statement, Statements, OptionalStatement, Declarations, Routine}
+use Rattle.sts_syntax.specs.Trees.{Tree, Trees, OptionalTree, Statement, Statements, Declarations, Routine}
 use Rattle.sts_syntax.specs.Types.{ValueType}
-use Rattle.sts_syntax.specs.TypedTrees.{none, more, TypedTree, TypedTrees, TypedStatement, TypedStatements, TypedDeclaration, TypedRoutine}
+use Rattle.sts_syntax.specs.TypedTrees.{none, more, TypedTree, TypedTrees, TypedStatement, TypedStatements, TypedDeclaration}
 use Rattle.sts_scope.specs.declared.kinds.StaticType.{StaticType}
 use Rattle.sts_scope.specs.Kinds.{nothing, value_type, class_of}
 use Rattle.sts_scope.specs.Rules.{part_of}
@@ -16,7 +15,6 @@ use Rattle.sts_scope.specs.Lookup.{is_field}
 use Rattle.sts_scope.specs.Values.{value_at}
 use Rattle.type_derive.specs.declared.roles.Role.{Role}
 use Rattle.type_derive.specs.inner.Filled as b
-use Rattle.type_derive.specs.Making.{Made}
 use Rattle.type_derive.specs.inner.Filling.{Making}
 use Rattle.type_derive.specs.Nodes.{kind_role}
 use Rattle.sts_scope.specs.Numbers.{is_method}
@@ -26,9 +24,6 @@ use Rattle.typed_numbers.specs.Building.{numbering_of, names_upto, globals_from}
 use Rattle.typed_numbers.specs.Counts.{counts_fit}
 use Rattle.typed_trees.specs.declared.build_places.Plan.{Plan}
 use Rattle.typed_trees.specs.declared.build_places.Site.{Site}
-
-abbrev pub made_of : {A : Type 0} → A → List ValueType → List TypedRoutine → Made A
-made_of x locals routines = record { it = x; locals = locals; routines = routines }
 
 -- which class a name stands for
 abbrev pub naming : Plan → Naming
@@ -61,12 +56,6 @@ noted of = value_type (unwrap_or of nothing)
 unfoldable pub given_made : Plan → b.Site → List StaticType → Trees → Making TypedTrees
 given_made p = b.made_given p.tables.now (naming p) p.known.now (numbering_of p.numbers.now)
 
-unfoldable pub items_made : Plan → b.Site → StaticType → Trees → Making TypedTrees
-items_made p = b.made_items p.tables.now (naming p) p.known.now (numbering_of p.numbers.now)
-
-unfoldable pub asked_made : Plan → b.Site → List BoardParameter → Trees → Making TypedTrees
-asked_made p = b.made_asked p.tables.now (naming p) p.known.now (numbering_of p.numbers.now)
-
 unfoldable pub body_made : Plan → b.Site → Routine → Making TypedStatements
 body_made p = b.made_body p.tables.now (naming p) p.known.now (numbering_of p.numbers.now)
 
@@ -91,9 +80,6 @@ statements_made p = b.made_statements p.tables.now (naming p) p.known.now (numbe
 -- where what follows a statement stands, whose first local has this number
 abbrev pub behind : Plan → ℕ → b.Site → Statement → b.Site
 behind p = b.behind_statement p.tables.now (naming p) p.known.now (numbering_of p.numbers.now)
-
-abbrev pub behind_first : Plan → ℕ → b.Site → OptionalStatement → b.Site
-behind_first p = b.first_site p.tables.now (naming p) p.known.now (numbering_of p.numbers.now)
 
 -- where a name's value is
 abbrev pub spot_of : Plan → b.Site → Found → Spot

@@ -3,8 +3,7 @@ ghost use Rattle.std.specs.Prelude.{◌≡◌, ◌++◌, ◌∷◌, [], length, 
 ghost use Rattle.sts_scope.specs.Places as name;
 ghost use Rattle.sts_syntax.specs.declared.typed.Spot.TheVariants.{Local};
 ghost use Rattle.type_derive.specs.Built.{in_block};
-ghost use Rattle.type_derive.specs.Moves.{left};
-ghost use Rattle.type_derive.specs.Scopes.{place};
+ghost use Rattle.type_derive.specs.Scopes.{left, place};
 ghost use Rattle.sts_syntax.specs.Views.{routine};
 ghost use Rattle.typed_trees.specs.Sites as s;
 ghost use Rattle.typed_trees.specs.Steps as steps;

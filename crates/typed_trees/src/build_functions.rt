@@ -5,7 +5,7 @@ ghost use Rattle.sts_syntax.specs.TypedViews.{typed_routine, typed_routines};
 ghost use Rattle.sts_syntax.specs.Views.{parameters, statements, routine};
 ghost use Rattle.sts_scope.specs.Kinds as kind;
 ghost use Rattle.sts_scope.specs.Entries.{parameter_kinds};
-ghost use Rattle.type_derive.specs.Programs.{parameter_spots};
+ghost use Rattle.type_derive.specs.Functions.{parameter_spots};
 ghost use Rattle.typed_trees.specs.Fits.{numbers_taken, RoutineFits};
 ghost use Rattle.typed_trees.specs.Sites as s;
 ghost use Rattle.typed_trees.specs.Sites.{IsPlan, naming};

@@ -1,5 +1,5 @@
 -- The filled tree of an expression or statement, node by node, also of one with failures: where something isn't there, a value stands for it. Where a node has no failure, it's the typed tree (`texts_without_a_failure_are_built` in crates/typed_laws).
-use Rattle.std.specs.Prelude.{ℕ, pos, suc, ◌+◌, ◌*◌, Bool, Option, Some, None, List, [], ◌∷◌, ◌++◌, ◌==◌, unwrap_or, get_or, if◌then◌else◌}
+use Rattle.std.specs.Prelude.{ℕ, pos, suc, ◌+◌, Bool, false, Option, Some, None, List, [], ◌∷◌, ◌++◌, unwrap_or, get_or, if◌then◌else◌}
 use Rattle.sts_base.specs.declared.tables.Tables.{Tables}
 use Rattle.sts_syntax.specs.Annotations.{Annotation}
 use Rattle.sts_syntax.specs.declared.typed.Spot.{Spot}
@@ -11,8 +11,7 @@ use Rattle.sts_syntax.specs.Types.{ValueType}
 use Rattle.sts_syntax.specs.TypedTrees as e
 use Rattle.sts_syntax.specs.TypedTrees.{TypedTree, TypedTrees, TypedStatement, TypedStatements, OptionalTypedStatement, TypedDeclaration, TypedRoutine}
 use Rattle.sts_syntax.specs.BoardTable as board
-use Rattle.sts_syntax.specs.BoardTable.{BoardParameter, BoardAction, row_of}
-use Rattle.sts_syntax.specs.declared.board_calls.BoardCall.{BoardCall}
+use Rattle.sts_syntax.specs.BoardTable.{BoardParameter, row_of}
 use Rattle.sts_syntax.specs.Trees.{Parameter, Tree, Num, Text, Truth, Null, This, Name, Unary, Binary, Both, Either, Choice, Set, Bump, Member, Item, Call, SuperCall, Make, Items, Handler, Trees, none, more, OptionalTree, absent, present, Statement, Block, Let, IfOnly, IfElse, While, DoWhile, For, ForOf, Return, Break, Continue, Plain, Empty, Statements, done, also, OptionalStatement, omitted, written, Declaration, Declare, Declarations, ended, next, Routine, Does}
 use Rattle.sts_scope.specs.declared.kinds.StaticType.{StaticType}
 use Rattle.sts_scope.specs.declared.known.Known.{Known}
@@ -20,17 +19,20 @@ use Rattle.sts_scope.specs.declared.known.Found.{Found}
 use Rattle.sts_scope.specs.declared.known.Found.TheVariants as found
 use Rattle.sts_scope.specs.declared.known.Part.{Part}
 use Rattle.sts_scope.specs.declared.known.Part.TheVariants as part
-use Rattle.sts_scope.specs.Kinds.{nothing, class_of, value_type}
-use Rattle.sts_scope.specs.Entries.{Naming, written_kind}
-use Rattle.sts_scope.specs.Places.{NameScope, inner}
+use Rattle.sts_scope.specs.declared.known.This.{This as Self}
+use Rattle.sts_scope.specs.declared.known.This.TheVariants as this
+use Rattle.sts_scope.specs.Kinds.{nothing, class_of, value_type, value_types}
+use Rattle.sts_scope.specs.Entries.{Naming, parameter_kinds, written_kind}
+use Rattle.sts_scope.specs.Places.{inner}
 use Rattle.sts_scope.specs.Rules.{part_of, takes_at, maker_takes_of}
 use Rattle.type_derive.specs.declared.roles.Role.TheVariants.{Free}
 use Rattle.type_derive.specs.Typing.{finds, constant_of, board_callee, super_method, board_kind, type_of, behind, drawn, draws, text_at}
-use Rattle.type_derive.specs.Returns.{bound, after, looped, items_of}
+use Rattle.type_derive.specs.Returns.{parameter_locals, within, bound, after, looped, items_of}
 use Rattle.type_derive.specs.Nodes.{kind_role, handler_place}
 use Rattle.type_derive.specs.Making.{Made}
-use Rattle.type_derive.specs.Built.{Site, in_block, frame_of, board_target, spots_from, new_spots}
+use Rattle.type_derive.specs.Built.{Site, in_block, frame_of, board_target, new_spots}
 pub use Rattle.type_derive.specs.Built.{Site, in_block, frame_of, board_target, spots_from, new_spots}
+use Rattle.type_derive.specs.Functions.{parameter_spots}
 use Rattle.type_derive.specs.inner.Filling.{Making, pure, ◌>=>◌, a_local}
 use Rattle.sts_scope.specs.Numbers.{Numbering, global_number, field_names, slot_names, place_among, routine_number}
 
@@ -190,7 +192,7 @@ module _ (tables : Tables) (names : Naming) (k : Known) (numbers : Numbering) wh
       | None ↦ made_call s (noted s g (Call at f args)) f (made_given s (call_takes s f) args)
     ]
     made_tree s g (SuperCall at None args) = pure amiss
-    made_tree s g (SuperCall at (Some m) args) = elim (super_method tables k s.place.this m) [
+    made_tree s g (SuperCall at (Some m) args) = elim (super_method k s.place.this m) [
       | None ↦ pure amiss
       | Some d ↦ made_given s (takes_at k.entries d) args
           >=> λ xs. pure (e.SuperCall (noted s g (SuperCall at (Some m) args)) (routine_number numbers d) xs)
@@ -275,9 +277,9 @@ module _ (tables : Tables) (names : Naming) (k : Known) (numbers : Numbering) wh
         >=> λ i. made_statement (in_block inside) a >=> λ x. pure (e.For f q i x) in
         all m n
     made_statement s (ForOf at fixed x list a) = λ m n.
-        let u = value_type (kind_or_nothing (items_of tables names k (type_of tables k s.place Free list))) in
+        let u = value_type (kind_or_nothing (items_of (type_of tables k s.place Free list))) in
         let inside : Site = record {
-          place = inner (looped tables names k s.place fixed x list);
+          place = inner (looped tables k s.place fixed x list);
           spots = s.spots ++ Local m ∷ [];
         } in
         let all = made_tree s None list >=> λ l. a_local u (λ i. i) >=> λ i. a_local (t.ListOf u) (λ j. j)
@@ -300,3 +302,25 @@ module _ (tables : Tables) (names : Naming) (k : Known) (numbers : Numbering) wh
         let all = made_statement s a >=> λ x. made_statements (behind_statement m s a) rest
         >=> λ xs. pure (e.also x xs) in
         all m n
+
+  -- a function's site: its parameters stand from the number i on
+  abbrev pub site : Self → Option StaticType → Bool → ℕ → List Parameter → Site
+  site self result library i params =
+      record { place = within (parameter_locals names params) self result library; spots = parameter_spots i params }
+
+  abbrev pub class_result : Option StaticType → ValueType
+  class_result o = value_type (kind_or_nothing o)
+
+  -- a function of the whole text, and the functions in it
+  abbrev pub function_made : Bool → ℕ → Option StaticType → Routine → List TypedRoutine
+  function_made library n result (Does at params gives all arrow) =
+      let made = routine (value_types (parameter_kinds names params)) (class_result result)
+      (made_statements (site this.Nowhere result library 0 params) all) n in
+      made.it ∷ made.routines
+
+  -- a method takes `this` first
+  abbrev pub method_made : ℕ → ℕ → Option StaticType → Routine → List TypedRoutine
+  method_made c n result (Does at params gives all arrow) =
+      let made = routine (t.Object c ∷ value_types (parameter_kinds names params)) (class_result result)
+      (made_statements (site (this.Object c) result false 1 params) all) n in
+      made.it ∷ made.routines

@@ -1,6 +1,6 @@
 use Rattle.std.proofs.Common.{◌≡◌, ℕ, subst}
 use Rattle.std.specs.Prelude.{IfOk, nat_lt}
-use Rattle.type_derive.specs.Naming.{naming}
+use Rattle.type_derive.specs.Scopes.{naming}
 use Rattle.type_derive.specs.Derived.{follows}
 use Rattle.derived_types.specs.Origins.{source}
 use Rattle.derived_types.proofs.Ruled.{rule_none, rule_some}

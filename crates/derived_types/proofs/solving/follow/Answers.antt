@@ -1,6 +1,6 @@
 use Rattle.std.proofs.Common.{sym, ap, ◌∙◌}
 use Rattle.sts_syntax.specs.Views.{statements}
-use Rattle.type_derive.specs.Naming.{naming}
+use Rattle.type_derive.specs.Scopes.{naming}
 use Rattle.type_derive.specs.Derived.{follows}
 use Rattle.derived_types.specs.Origins.{source}
 use Rattle.type_derive.specs.Returns as given

@@ -5,8 +5,7 @@ use Rattle.sts_scope.specs.Entries.{class_names}
 use Rattle.sts_scope.specs.Scopes.{all_names}
 use Rattle.sts_scope.proofs.Laws.{head_count}
 use Rattle.sts_scope.specs.Values.{value_at}
-use Rattle.type_derive.specs.Accepted.{all_sources}
-use Rattle.type_derive.specs.Derived.{rule, sources_from, IsLeast}
+use Rattle.type_derive.specs.Derived.{all_sources, rule, sources_from, IsLeast}
 use Rattle.derived_types.specs.Origins.{sources}
 use Rattle.derived_types.proofs.Ruled.{known_is}
 use Rattle.derived_types.proofs.solving.solve.Goals as goal

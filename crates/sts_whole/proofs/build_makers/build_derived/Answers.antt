@@ -8,6 +8,7 @@ use Rattle.type_derive.specs.inner.Filling.{Making}
 use Rattle.typed_trees.specs.Sites as s
 use Rattle.typed_trees.specs.Steps.{IsBuilt}
 use Rattle.sts_whole.specs.Wholes as w
+use Rattle.sts_whole.proofs.Before.{headed_made}
 use Rattle.std.specs.Prelude.{Some}
 use Rattle.sts_whole.proofs.Constructors.{without_any, without_head, with_head, headed_is, statements_first, statements_none, rest_is}
 use Rattle.sts_whole.proofs.build_makers.build_derived.Goals as goal
@@ -49,7 +50,7 @@ returns-in_ok-made-in-Some c =
     let headed = headed_is l st c.args.base inits (trees h.args.now) (statements (take (length all - 1) (drop 1 all))) b0 b1 b2 ys (typed_statement c.super_called-call.result ∷ inits) made
     called given c.in_ok-made-in-Some.ensures in
     let first = statements_first all c.first-item.result c.in-len1-up.len_at_least c.first-item.is in
-    let e = ap (λ (xs : List Stmt). w.headed_made l st c.args.base inits (trees h.args.now) (statements xs)) (rest_is all)
+    let e = ap (λ (xs : List Stmt). headed_made l st c.args.base inits (trees h.args.now) (statements xs)) (rest_is all)
     ∙ sym (with_head l st c.args.base inits (statement c.first-item.result) (statements (drop 1 all)) (record { at = h.at; args = trees h.args.now }) (sym c.in-Some.ensures))
     ∙ ap (w.maker_statements l st (Some c.args.base) inits) (sym first) in
     subst (λ (f : Making TypedStatements). IsBuilt b0 b2 f made) e headed

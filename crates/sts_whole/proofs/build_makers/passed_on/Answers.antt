@@ -1,7 +1,7 @@
 use Rattle.std.proofs.Common.{◌+◌, refl, ap, arith}
 use Rattle.sts_syntax.specs.declared.typed.Spot.TheVariants.{Param}
 use Rattle.sts_syntax.specs.TypedTrees as e
-use Rattle.type_derive.specs.Programs.{passed_on}
+use Rattle.typed_laws.specs.Programs.{passed_on}
 use Rattle.sts_whole.proofs.Makers.{passed_next, passed_end}
 use Rattle.sts_whole.proofs.build_makers.passed_on.Goals as goal
 

@@ -1,6 +1,6 @@
 use Rattle.std.proofs.Common.{◌≡◌, ◌+◌, drop}
-use Rattle.type_derive.specs.Programs.{passed_on}
-use Rattle.sts_whole.specs.Wholes.{onto}
+use Rattle.typed_laws.specs.Programs.{passed_on}
+use Rattle.sts_whole.proofs.Before.{onto}
 use Rattle.sts_whole.proofs.build_makers.passed_on.Given as goal
 
 abbrev pub invariant-loop-kind : goal.invariant-loop-kind

@@ -4,7 +4,7 @@ use Rattle.sts_syntax.specs.Types.{value_types}
 use Rattle.sts_syntax.specs.TypedTrees.{TypedStatements}
 use Rattle.sts_syntax.specs.TypedViews.{typed_routines}
 use Rattle.type_derive.specs.Making.{Made}
-use Rattle.type_derive.specs.Programs.{◌before◌}
+use Rattle.typed_laws.specs.Programs.{◌before◌}
 use Rattle.typed_trees.specs.Sites.{naming}
 use Rattle.sts_whole.specs.Wholes as w
 use Rattle.sts_whole.proofs.ClassParts.{step_list}

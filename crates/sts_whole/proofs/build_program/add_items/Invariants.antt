@@ -4,7 +4,7 @@ use Rattle.sts_syntax.specs.Types.{value_types}
 use Rattle.sts_syntax.specs.TypedViews.{typed_routines}
 use Rattle.sts_scope.specs.Entries as entry
 use Rattle.text_sizes.specs.Numbered as counts
-use Rattle.type_derive.specs.Programs.{◌before◌}
+use Rattle.typed_laws.specs.Programs.{◌before◌}
 use Rattle.typed_trees.specs.Sites.{naming}
 use Rattle.sts_whole.specs.Wholes as w
 use Rattle.sts_whole.proofs.build_program.add_items.Given as goal

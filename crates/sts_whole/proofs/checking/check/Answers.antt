@@ -4,8 +4,8 @@ use Rattle.sts_base.specs.declared.refused.Refused.{Refused}
 use Rattle.sts_syntax.specs.Programs.{program}
 use Rattle.sts_syntax.specs.TypedTrees.{TypedProgram}
 use Rattle.sts_syntax.specs.TypedViews.{typed_program}
-use Rattle.type_derive.specs.inner.FilledTexts.{filled_program}
-use Rattle.type_derive.specs.Solved.{IsSolved}
+use Rattle.typed_laws.specs.inner.FilledTexts.{filled_program}
+use Rattle.derived_types.specs.Solved.{IsSolved}
 use Rattle.sts_whole.specs.Checking.{RefusesTrees}
 use Rattle.sts_whole.proofs.Checked.{text_behind, heading_refused, found_refused, counts_refused, limits_refused, accepted}
 use Rattle.sts_whole.proofs.Numbered.{counts_hold}

@@ -13,7 +13,7 @@ use Rattle.sts_scope.specs.Failures.{Finds, ◌then◌, unless, RefusedWith}
 use Rattle.sts_scope.specs.Rules.{operate, element, choose, assign, counted, prefix, is_boolean}
 use Rattle.sts_scope.specs.Rules as rule
 use Rattle.type_derive.specs.declared.roles.Role.TheVariants.{Free, Given}
-use Rattle.type_derive.specs.Scopes.{place}
+use Rattle.type_derive.specs.Scopes.{place, naming}
 use Rattle.type_derive.specs.Typing.{◌>>=◌, type_of, role_of, constant_of, board_callee, settable}
 use Rattle.type_derive.proofs.Laws.{none_if, closed, extends_to, after_extends, block_is}
 use Rattle.sts_scope.specs.Places.{inner}
@@ -21,7 +21,6 @@ use Rattle.sts_syntax.proofs.Laws.{routine_parts, let_statement}
 use Rattle.type_check.specs.declared.seen.Seen.{Seen}
 use Rattle.type_check.specs.Bounds.{optional_boxed}
 use Rattle.type_check.specs.Seen.{is_served, is_test}
-use Rattle.type_derive.specs.Naming.{naming}
 use Rattle.type_derive.specs.Nodes.{serves_itself}
 use Rattle.type_check.proofs.Placed.{handler_own}
 use Rattle.type_check.specs.Contexts.{failure, seen_of, taken, handler_failure, first_failure, optional_failure, statement_failure, after, after_first}

@@ -2,10 +2,9 @@ use Rattle.std.proofs.Common.{◌≡◌, ◌+◌, ◌*◌, ◌++◌, drop}
 use Rattle.sts_syntax.specs.Nesting.{nesting, deepest_tree, optional_nesting, statement_nesting, deepest_statement, optional_statement_nesting, declaration_nesting, deepest_declaration, routine_nesting}
 use Rattle.sts_syntax.specs.Trees as t
 use Rattle.sts_syntax.specs.Views.{tree, trees, statement, statements, declaration, declarations, routine, optional_expression}
-use Rattle.type_derive.specs.Scopes.{place}
+use Rattle.type_derive.specs.Scopes.{place, Extends}
 use Rattle.type_check.specs.Bounds.{optional_boxed}
 use Rattle.type_check.specs.Contexts.{failures, kinds_of, taken, statements_failure, declarations_failure, all_declared}
-use Rattle.type_derive.specs.Moves.{Extends}
 use Rattle.type_check.proofs.failure.+walk.Given as goal
 
 abbrev pub invariant-kinds_of-loop-i : goal.invariant-kinds_of-loop-i

@@ -13,7 +13,7 @@ pub returns-in-Name : goal.returns-in-Name
 returns-in-Name c =
     let t = c.args.context.now.tables.now in
     let k = c.args.context.now.known.now in
-    c.named_callee.ensures t k ∙ ap (named_callee t k) c.name_found.ensures ∙ sym (ap (callee_of t k (place c.args.scope.now)) (name_is c.args.f.now c.in-Name.x c.in-Name.is))
+    c.named_callee.ensures k ∙ ap (named_callee k) c.name_found.ensures ∙ sym (ap (callee_of t k (place c.args.scope.now)) (name_is c.args.f.now c.in-Name.x c.in-Name.is))
 
 pub returns-in-Some : goal.returns-in-Some
 returns-in-Some c =
@@ -21,6 +21,6 @@ returns-in-Some c =
     let k = c.args.context.now.known.now in
     let p = place c.args.scope.now in
     let e = member_is c.args.f.now c.in-Member.field-0 c.in-Member.field-1 c.in-Member.is in
-    c.part_callee.ensures t k
-    ∙ part_through (type_of t k p Free (tree c.in-Member.field-0.value)) (λ u. part_of t.names k u c.in-Member.field-1) (part_callee t k) c.in-Some.part (sym c.in-Some.is ∙ c.requires ∙ ap (part_at t k p) e)
+    c.part_callee.ensures k
+    ∙ part_through (type_of t k p Free (tree c.in-Member.field-0.value)) (λ u. part_of t.names k u c.in-Member.field-1) (part_callee k) c.in-Some.part (sym c.in-Some.is ∙ c.requires ∙ ap (part_at t k p) e)
     ∙ sym (ap (callee_of t k p) e)

@@ -2,7 +2,7 @@ use Rattle.std.proofs.Common.{◌<◌, length, refl, arith}
 use Rattle.std.proofs.lemmas.Grind.{common_steps}
 use Rattle.sts_syntax.specs.Programs.{top_level, top_levels}
 use Rattle.sts_scope.specs.Entries.{item_entries}
-use Rattle.type_derive.specs.Naming.{naming}
+use Rattle.type_derive.specs.Scopes.{naming}
 use Rattle.type_derive.specs.Passes.{item_overrides, all_overrides}
 use Rattle.text_headings.specs.Standing.{classes_before}
 use Rattle.text_headings.proofs.Laws.{item_stands, room_left, rest_stands, failures_step, failures_kept}

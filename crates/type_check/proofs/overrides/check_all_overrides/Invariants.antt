@@ -2,7 +2,7 @@ use Rattle.std.proofs.Common.{◌≡◌, drop}
 use Rattle.sts_syntax.specs.Programs.{top_levels}
 use Rattle.text_headings.specs.Standing.{classes_before, IsTextAt}
 use Rattle.type_derive.specs.Passes as pass
-use Rattle.type_derive.specs.Naming.{naming}
+use Rattle.type_derive.specs.Scopes.{naming}
 use Rattle.type_check.proofs.overrides.check_all_overrides.Given as goal
 
 abbrev pub invariant-loop-i : goal.invariant-loop-i

@@ -2,7 +2,7 @@ use Rattle.std.proofs.Common.{◌≡◌, ◌+◌, drop, length}
 use Rattle.sts_syntax.specs.Programs.{class_members}
 use Rattle.sts_scope.specs.Entries as entry
 use Rattle.type_derive.specs.Passes as pass
-use Rattle.type_derive.specs.Naming.{naming}
+use Rattle.type_derive.specs.Scopes.{naming}
 use Rattle.type_check.proofs.overrides.check_overrides.Given as goal
 
 abbrev pub invariant-loop-i : goal.invariant-loop-i

@@ -1,7 +1,7 @@
 use Rattle.std.proofs.Common.{◌≡◌, drop}
 use Rattle.sts_syntax.specs.Views.{declarations}
 use Rattle.type_derive.specs.Passes as pass
-use Rattle.type_derive.specs.Naming.{naming}
+use Rattle.type_derive.specs.Scopes.{naming}
 use Rattle.type_check.proofs.passes.check_globals.Given as goal
 
 abbrev pub invariant-loop-i : goal.invariant-loop-i

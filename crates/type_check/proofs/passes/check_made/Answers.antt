@@ -3,8 +3,7 @@ use Rattle.sts_syntax.specs.declared.trees.Stmt.{Stmt}
 use Rattle.sts_syntax.specs.Views.{trees, statement, statements}
 use Rattle.sts_scope.specs.Failures.{Finds, ◌then◌}
 use Rattle.type_derive.specs.Passes.{made_failure}
-use Rattle.type_derive.specs.Scopes.{place}
-use Rattle.type_derive.specs.Naming.{naming}
+use Rattle.type_derive.specs.Scopes.{place, naming}
 use Rattle.type_check.specs.Contexts.{statements_failure}
 use Rattle.type_check.specs.Texts.{super_failure, unmade_failure}
 use Rattle.type_check.proofs.Texts.{made_without, made_with, statements_first, rest_is}

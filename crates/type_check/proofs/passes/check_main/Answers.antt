@@ -3,7 +3,7 @@ use Rattle.sts_syntax.specs.Views.{declarations, form_statement}
 use Rattle.sts_syntax.proofs.Laws.{let_statement}
 use Rattle.sts_scope.specs.Failures.{Finds}
 use Rattle.type_derive.specs.Passes.{main_failure, globals_failure}
-use Rattle.type_derive.specs.Naming.{naming}
+use Rattle.type_derive.specs.Scopes.{naming}
 use Rattle.type_check.proofs.passes.check_main.Goals as goal
 
 pub returns-in-Let : goal.returns-in-Let

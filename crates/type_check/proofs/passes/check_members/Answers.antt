@@ -3,7 +3,7 @@ use Rattle.std.proofs.lemmas.Grind.{common_steps}
 use Rattle.sts_syntax.specs.Programs.{class_members}
 use Rattle.sts_scope.specs.Entries.{member_entries}
 use Rattle.text_headings.proofs.Laws.{member_room}
-use Rattle.type_derive.specs.Naming.{naming}
+use Rattle.type_derive.specs.Scopes.{naming}
 use Rattle.type_check.proofs.Texts.{members_step}
 use Rattle.type_check.proofs.passes.check_members.Goals as goal
 

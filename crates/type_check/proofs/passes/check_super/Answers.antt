@@ -3,8 +3,7 @@ use Rattle.sts_base.specs.declared.refused.Code.TheVariants.{Mismatch}
 use Rattle.sts_syntax.specs.Views.{trees}
 use Rattle.sts_scope.specs.Failures.{Finds, ◌then◌, unless}
 use Rattle.sts_scope.specs.Rules.{maker_takes_of}
-use Rattle.type_derive.specs.Scopes.{place}
-use Rattle.type_derive.specs.Naming.{naming}
+use Rattle.type_derive.specs.Scopes.{place, naming}
 use Rattle.type_check.specs.Seen.{fit_all, kinds_given}
 use Rattle.type_check.proofs.Texts.{super_is}
 use Rattle.type_check.proofs.passes.check_super.Goals as goal

@@ -8,4 +8,4 @@ pub returns-in-Name : goal.returns-in-Name
 returns-in-Name c =
     let t = c.args.tables.now in
     let k = c.args.known.now in
-    c.names_function.ensures t k ∙ ap (names_function t k) c.name_found.ensures ∙ sym (ap (is_routine t k (place c.args.scope.now)) (name_is c.args.e.now c.in-Name.x c.in-Name.is))
+    c.names_function.ensures ∙ ap (names_function) c.name_found.ensures ∙ sym (ap (is_routine t k (place c.args.scope.now)) (name_is c.args.e.now c.in-Name.x c.in-Name.is))

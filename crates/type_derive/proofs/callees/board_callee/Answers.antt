@@ -26,4 +26,4 @@ returns-in-Name c =
     let p = place c.args.scope.now in
     let f = c.args.f.now in
     let e = name_is f c.in-Name.field-0 c.in-Name.is in
-    c.own_call.ensures k ∙ ap (own_call t k p.library) (c.space-in-Name.ensures ∙ ap (space t k p) e) ∙ sym (ap (board_callee t k p) e)
+    c.own_call.ensures ∙ ap (own_call p.library) (c.space-in-Name.ensures ∙ ap (space t k p) e) ∙ sym (ap (board_callee t k p) e)

@@ -7,7 +7,7 @@ use Rattle.type_derive.proofs.Calling.{method_found}
 use Rattle.type_derive.proofs.callees.super_method.Goals as goal
 
 pub returns-in-Some : goal.returns-in-Some
-returns-in-Some c = λ t.
+returns-in-Some c =
     let k = c.args.known.now in
     let h : inherited k.entries k.classes c.in-Object.c c.args.m ≡ Some c.in-Some.d = grind (arith, common_steps) in
-    c.method_of.ensures t ∙ sym (ap (λ s. super_method t k s c.args.m) c.in-Object.is ∙ method_found t k c.in-Object.c c.args.m c.in-Some.d h)
+    c.method_of.ensures ∙ sym (ap (λ s. super_method k s c.args.m) c.in-Object.is ∙ method_found k c.in-Object.c c.args.m c.in-Some.d h)

@@ -35,7 +35,7 @@ pub callee-returns-in_ok-note_found-in-Name : goal.callee-returns-in_ok-note_fou
 callee-returns-in_ok-note_found-in-Name t c =
     let s = c.args.context.now.tables.now in
     let k = c.args.context.now.known.now in
-    c.named_callee.ensures s k ∙ ap (named_callee s k) c.name_found-found.ensures ∙ sym (ap (callee_of s k (place c.args.scope.now)) (name_is c.args.f.now c.in-Name.x c.in-Name.is))
+    c.named_callee.ensures k ∙ ap (named_callee k) c.name_found-found.ensures ∙ sym (ap (callee_of s k (place c.args.scope.now)) (name_is c.args.f.now c.in-Name.x c.in-Name.is))
 
 pub callee-returns-in_ok-note_part-in-Member : goal.callee-returns-in_ok-note_part-in-Member
 callee-returns-in_ok-note_part-in-Member t c =
@@ -44,8 +44,8 @@ callee-returns-in_ok-note_part-in-Member t c =
     let p = place c.args.scope.now in
     let m = c.in-Member.m in
     let u = moved s k p Free c.deref.result.now c.in-Member.a.value c.in_ok-s-in-Member.s c.in_ok-s-in-Member.ensures c.deref.ensures in
-    c.part_called.ensures s k ∙ ap (λ o. o >>= λ q. part_callee s k q) (c.part_behind-part.ensures ∙ ap (λ o. o >>= λ w. Some (part_of s.names k w m)) u)
-    ∙ bind_some (type_of s k p Free (tree c.in-Member.a.value)) (λ w. part_of s.names k w m) (λ q. part_callee s k q)
+    c.part_called.ensures k ∙ ap (λ o. o >>= λ q. part_callee k q) (c.part_behind-part.ensures ∙ ap (λ o. o >>= λ w. Some (part_of s.names k w m)) u)
+    ∙ bind_some (type_of s k p Free (tree c.in-Member.a.value)) (λ w. part_of s.names k w m) (λ q. part_callee k q)
     ∙ sym (ap (callee_of s k p) (member_is c.args.f.now c.in-Member.a m c.in-Member.is))
 
 pub board_type-loop-i-preserved : goal.board_type-loop-i-preserved
@@ -243,8 +243,8 @@ call_type-returns-in_ok-called-in-Call t c =
     let row = c.board_takes-row.result in
     let h = c.board_takes-row.ensures ∙ ap (λ z. option_map row_called (board_callee s k p (tree z))) c.deref.ensures in
     let g = c.in_ok-called-in-Call.ensures ∙ ap (λ z. callee_of s k p (tree z)) c.deref-in-Call.ensures in
-    IfOk-weaker c.called_type.result _ _ (λ u is r. is ∙ ap (λ d. called s k d (types_of s k p (trees c.as_slice.result.now))) g
-    ∙ ap (λ xs. called s k (callee_of s k p (tree f.value)) (types_of s k p (trees xs))) c.as_slice.ensures
+    IfOk-weaker c.called_type.result _ _ (λ u is r. is ∙ ap (λ d. called k d (types_of s k p (trees c.as_slice.result.now))) g
+    ∙ ap (λ xs. called k (callee_of s k p (tree f.value)) (types_of s k p (trees xs))) c.as_slice.ensures
     ∙ sym (call_other s k p r e.at (tree f.value) (trees args) row c.is_some.result h c.is_some.ensures c.if-is_some.false)
     ∙ sym (ap (type_of s k p r) (call_is e f args c.in-Call.is))) c.called_type.ensures
 
@@ -257,10 +257,10 @@ call_type-returns-in_ok-note_called-in-Some t c =
     let m = c.in-Some.m in
     let args = c.in-SuperCall.args in
     let form = super_call_is e c.in-SuperCall.method args c.in-SuperCall.is ∙ ap (λ o. SuperCall e.at o (trees args)) c.in-Some.is in
-    let method = super_method s k p.this m >>= λ d. Some (callee (takes_at k.entries d) (kind_at k d)) in
-    let f = c.routine-called.ensures k ∙ ap (λ o. o >>= λ d. Some (callee (takes_at k.entries d) (kind_at k d))) (c.super_method.ensures s) in
-    IfOk-weaker c.called_type-in-Some.result _ _ (λ u is r. is ∙ ap (λ d. called s k d (types_of s k p (trees c.as_slice-in-Some.result.now))) f
-    ∙ ap (λ xs. called s k method (types_of s k p (trees xs))) c.as_slice-in-Some.ensures
+    let method = super_method k p.this m >>= λ d. Some (callee (takes_at k.entries d) (kind_at k d)) in
+    let f = c.routine-called.ensures k ∙ ap (λ o. o >>= λ d. Some (callee (takes_at k.entries d) (kind_at k d))) c.super_method.ensures in
+    IfOk-weaker c.called_type-in-Some.result _ _ (λ u is r. is ∙ ap (λ d. called k d (types_of s k p (trees c.as_slice-in-Some.result.now))) f
+    ∙ ap (λ xs. called k method (types_of s k p (trees xs))) c.as_slice-in-Some.ensures
     ∙ sym (ap (type_of s k p r) form)) c.called_type-in-Some.ensures
 
 pub call_type-returns-in-Make : goal.call_type-returns-in-Make
@@ -271,10 +271,10 @@ call_type-returns-in-Make t c =
     let e = c.args.e.now in
     let args = c.in-Make.args in
     let form = make_is e c.in-Make.x args c.in-Make.is in
-    let f' = made s k (name_found s.names k p c.in-Make.x) in
-    let f = c.made-called.ensures s k ∙ ap (made s k) c.name_found.ensures in
-    IfOk-weaker c.called_type-in-Make.result _ _ (λ u is r. is ∙ ap (λ d. called s k d (types_of s k p (trees c.as_slice-in-Make.result.now))) f
-    ∙ ap (λ xs. called s k f' (types_of s k p (trees xs))) c.as_slice-in-Make.ensures
+    let f' = made k (name_found s.names k p c.in-Make.x) in
+    let f = c.made-called.ensures k ∙ ap (made k) c.name_found.ensures in
+    IfOk-weaker c.called_type-in-Make.result _ _ (λ u is r. is ∙ ap (λ d. called k d (types_of s k p (trees c.as_slice-in-Make.result.now))) f
+    ∙ ap (λ xs. called k f' (types_of s k p (trees xs))) c.as_slice-in-Make.ensures
     ∙ sym (ap (type_of s k p r) form)) c.called_type-in-Make.ensures
 
 pub type_of-returns-in-Unary : goal.type_of-returns-in-Unary

@@ -4,7 +4,7 @@ use Rattle.sts_syntax.specs.BoardViews.{board_parameter}
 use Rattle.sts_syntax.specs.Views.{trees}
 use Rattle.type_derive.specs.Scopes.{place}
 use Rattle.type_derive.specs.Typing.{types_of, are_given}
-use Rattle.type_derive.specs.Shown.{typed_go, typed_go_to}
+use Rattle.type_derive.proofs.Going.{typed_go, typed_go_to}
 use Rattle.type_derive.proofs.evaluation.+types.Given as goal
 
 abbrev pub invariant-list_type-loop-i : goal.invariant-list_type-loop-i

@@ -6,9 +6,7 @@ use Rattle.sts_syntax.proofs.Laws.{let_statement}
 use Rattle.sts_scope.specs.Places.{inner, with}
 use Rattle.type_derive.specs.declared.roles.Role.TheVariants.{Free}
 use Rattle.type_derive.specs.Typing.{type_of}
-use Rattle.type_derive.specs.Scopes.{place}
-use Rattle.type_derive.specs.Moves.{Extends}
-use Rattle.type_derive.specs.Naming.{naming}
+use Rattle.type_derive.specs.Scopes.{place, Extends, naming}
 use Rattle.type_derive.specs.Returns as given
 use Rattle.type_derive.proofs.Opened.{block_is}
 use Rattle.type_derive.proofs.Moves.{closed, stays, further, extends_to, after_extends, returned_step}
@@ -93,9 +91,9 @@ returned_in_loop-returns-in_ok-kind-in-ForOf-2-clause-value t c =
     let fixed = c.in-ForOf.fixed in
     let e = tree c.in-ForOf.list in
     let b = c.in-ForOf.body.value in
-    let items = given.items_of s f k (type_of s k p Free e) in
-    let d = c.in_ok-declare-in-ForOf.ensures ∙ ap (λ o. with (place c.enter-mark-in-ForOf.new.scope) x o fixed) (c.items_of.ensures s f k ∙ ap (given.items_of s f k) c.in_ok-kind-in-ForOf.ensures)
+    let items = given.items_of (type_of s k p Free e) in
+    let d = c.in_ok-declare-in-ForOf.ensures ∙ ap (λ o. with (place c.enter-mark-in-ForOf.new.scope) x o fixed) (c.items_of.ensures ∙ ap (given.items_of) c.in_ok-kind-in-ForOf.ensures)
     ∙ ap (λ q. with q x items fixed) c.enter-mark-in-ForOf.ensures.place in
     c.in_ok-kind-in-ForOf-2.ensures.value ∙ ap (λ q. given.returned s f k (inner q) (statement c.deref-in-ForOf.result.now)) d
-    ∙ ap (λ a. given.returned s f k (inner (given.looped s f k p fixed x e)) (statement a)) c.deref-in-ForOf.ensures
+    ∙ ap (λ a. given.returned s f k (inner (given.looped s k p fixed x e)) (statement a)) c.deref-in-ForOf.ensures
     ∙ sym (ap (given.returned s f k p) (ap (form_statement c.args.s.now.at) c.in-ForOf.is))

@@ -1,8 +1,6 @@
 use Rattle.std.proofs.Common.{◌≡◌, drop}
 use Rattle.sts_syntax.specs.Views.{statements}
-use Rattle.type_derive.specs.Scopes.{place}
-use Rattle.type_derive.specs.Moves.{Extends}
-use Rattle.type_derive.specs.Naming.{naming}
+use Rattle.type_derive.specs.Scopes.{place, Extends, naming}
 use Rattle.type_derive.specs.Returns as given
 use Rattle.type_derive.proofs.returns.+returns.Given as goal
 

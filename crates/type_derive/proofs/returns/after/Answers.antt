@@ -2,8 +2,7 @@ use Rattle.std.proofs.Common.{◌≡◌, sym, ap, ◌∙◌, subst}
 use Rattle.std.specs.Prelude.{OnOk}
 use Rattle.sts_syntax.specs.Views.{declarations, form_statement}
 use Rattle.sts_syntax.proofs.Laws.{let_statement}
-use Rattle.type_derive.specs.Naming.{naming}
-use Rattle.type_derive.specs.Scopes.{place}
+use Rattle.type_derive.specs.Scopes.{naming, place}
 use Rattle.type_derive.specs.Returns as given
 use Rattle.type_derive.proofs.returns.after.Goals as goal
 

@@ -1,7 +1,6 @@
 use Rattle.std.proofs.Common.{◌≡◌, drop}
 use Rattle.sts_syntax.specs.Views.{declarations}
-use Rattle.type_derive.specs.Naming.{naming}
-use Rattle.type_derive.specs.Scopes.{place}
+use Rattle.type_derive.specs.Scopes.{naming, place}
 use Rattle.type_derive.specs.Returns as given
 use Rattle.type_derive.proofs.returns.declare_all.Given as goal
 

@@ -1,8 +1,8 @@
 use Rattle.std.specs.Prelude.{◌++◌}
 use Rattle.sts_scope.specs.Numbers.{numbering}
 use Rattle.sts_scope.specs.Scopes.{all_names}
-use Rattle.type_derive.specs.Accepted.{known}
-use Rattle.type_derive.specs.inner.FilledTexts.{filled_program}
+use Rattle.type_derive.specs.Derived.{known}
+use Rattle.typed_laws.specs.inner.FilledTexts.{filled_program}
 use Rattle.typed_laws.proofs.Classes.{field_listed, method_listed}
 use Rattle.typed_laws.proofs.Rounds.{kinds_proper}
 use Rattle.typed_laws.proofs.Whole.{made_all}

@@ -24,7 +24,7 @@ returns c =
     let gs = optional_annotation body.gives in
     let result = c.in-Ok.ensures.ok ∙ ap (λ (xs : List Param). node.handler_result t n k p (parameters xs) gs (statements c.as_slice-all.result.now)) c.as_slice-params.ensures
     ∙ ap (λ (xs : List Stmt). node.handler_result t n k p ps gs (statements xs)) c.as_slice-all.ensures in
-    let within = c.in_ok-scope.ensures ∙ ap (λ (xs : List Param). node.handler_within t n k p (parameters xs) c.in-Ok.gives) c.as_slice-params.ensures
-    ∙ ap (λ (g : Option StaticType). node.handler_within t n k p ps g) result in
+    let within = c.in_ok-scope.ensures ∙ ap (λ (xs : List Param). node.handler_within n p (parameters xs) c.in-Ok.gives) c.as_slice-params.ensures
+    ∙ ap (λ (g : Option StaticType). node.handler_within n p ps g) result in
     site_is (place c.in_ok-scope.scope) (node.handler_place t n k p ps gs (statements body.stmts)) c.new.result [] within c.new.ensures
     ∙ sym (ap (step.handler_site w (s.site c.args.site.now)) (routine_parts c.args.body.now))

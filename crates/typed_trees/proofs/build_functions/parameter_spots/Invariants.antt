@@ -1,6 +1,6 @@
 use Rattle.std.proofs.Common.{◌≡◌, ◌+◌, ◌++◌, drop}
 use Rattle.sts_syntax.specs.Views.{parameters}
-use Rattle.type_derive.specs.Programs.{parameter_spots}
+use Rattle.type_derive.specs.Functions.{parameter_spots}
 use Rattle.typed_trees.proofs.build_functions.parameter_spots.Given as goal
 
 abbrev pub invariant-loop-param : goal.invariant-loop-param

@@ -10,7 +10,7 @@ use Rattle.sts_syntax.specs.TypedTrees.{TypedRoutine}
 use Rattle.sts_syntax.specs.TypeRules.{entry}
 use Rattle.sts_syntax.specs.Trees.{Does}
 use Rattle.sts_syntax.specs.Programs.{Function, Program}
-use Rattle.type_derive.specs.Derived.{TypeTable}
+use Rattle.type_derive.specs.Derived.{TypeTable, known}
 use Rattle.sts_scope.specs.declared.known.Known.{Known}
 use Rattle.sts_scope.specs.declared.known.This.TheVariants as this
 use Rattle.sts_scope.specs.Failures.{Failure, ◌then◌}
@@ -20,9 +20,8 @@ use Rattle.sts_scope.specs.Scopes.{all_names}
 use Rattle.type_derive.specs.Returns.{parameter_locals, within}
 use Rattle.type_derive.specs.Nodes.{statements_failure}
 use Rattle.sts_scope.specs.Numbers.{numbering}
-use Rattle.type_derive.specs.Formed.{IsFormedProgram}
-use Rattle.type_derive.specs.Programs.{library_made}
-use Rattle.type_derive.specs.Accepted.{known}
+use Rattle.typed_laws.specs.Formed.{IsFormedProgram}
+use Rattle.typed_laws.specs.Programs.{library_made}
 
 -- what the library's function of a row takes: a drawing is a number
 abbrev pub taken : List BoardParameter → List ValueType

@@ -1,5 +1,5 @@
 -- What the code builds of any text, and with what failure it refuses it: the filled program stands for the typed one.
-use Rattle.std.specs.Prelude.{◌≡◌, ℕ, ◌+◌, Option, Some, None, List, [], ◌∷◌, ◌++◌, length}
+use Rattle.std.specs.Prelude.{◌≡◌, ◌+◌, Option, Some, None, [], ◌∷◌, ◌++◌, length}
 use Rattle.sts_base.specs.declared.tables.Tables.{Tables}
 use Rattle.sts_syntax.specs.Programs.{Program}
 use Rattle.sts_syntax.specs.TypedTrees.{TypedProgram}
@@ -7,10 +7,9 @@ use Rattle.sts_scope.specs.Failures.{Failure, ◌then◌}
 use Rattle.sts_scope.specs.Handlers.{all_routines}
 use Rattle.sts_scope.specs.Numbers.{numbering}
 use Rattle.sts_scope.specs.Scopes.{all_names, library_classes}
-use Rattle.type_derive.specs.Accepted.{known, AreDerived, main_routine, text_failure}
-use Rattle.type_derive.specs.Derived.{TypeTable}
-use Rattle.type_derive.specs.Limits.{limits_failure}
-use Rattle.type_derive.specs.inner.FilledPrograms.{items_made, library_made, class_entries, global_types}
+use Rattle.type_derive.specs.Derived.{known, AreDerived, TypeTable}
+use Rattle.typed_laws.specs.Accepted.{main_routine, text_failure, limits_failure}
+use Rattle.typed_laws.specs.inner.FilledPrograms.{items_made, library_made, class_entries, global_types}
 
 abbrev pub filled_program : Tables → Program → Program → TypeTable → TypedProgram
 filled_program tables library text kinds =

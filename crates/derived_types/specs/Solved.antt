@@ -5,7 +5,7 @@ use Rattle.sts_syntax.specs.Programs.{Program}
 use Rattle.sts_scope.specs.declared.collect.Declared.{Declared}
 use Rattle.sts_scope.specs.Values.{value_at}
 use Rattle.sts_scope.specs.Scopes.{all_names, library_classes}
-use Rattle.type_derive.specs.Accepted.{known, AreDerived}
+use Rattle.type_derive.specs.Derived.{known, AreDerived}
 
 pub record IsSolved (tables : Tables) (library text : Program) (d : Declared) : Type 0 where
   pub names : (y : ℕ) → value_at d.classes.values.items y ≡ all_names library text y

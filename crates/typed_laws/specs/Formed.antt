@@ -100,34 +100,7 @@ Is32 n = is_int32 n ≡ true
 abbrev pub Any : ℕ → Type 0
 Any text = Unit {0}
 
--- A tree is formed: its numbers have 32 bits.
-abbrev pub IsFormed : Tree → Type 0
-IsFormed a = TreeHas Is32 Any a
-
-abbrev pub AreFormed : Trees → Type 0
-AreFormed a = TreesHave Is32 Any a
-
-abbrev pub MayBeFormed : OptionalTree → Type 0
-MayBeFormed a = OptionHas Is32 Any a
-
-abbrev pub IsFormedDeclaration : Declaration → Type 0
-IsFormedDeclaration a = DeclarationHas Is32 Any a
-
-abbrev pub AreFormedDeclarations : Declarations → Type 0
-AreFormedDeclarations a = DeclarationsHave Is32 Any a
-
-abbrev pub IsFormedIn : Bool → Statement → Type 0
-IsFormedIn looped a = StatementHas Is32 Any looped a
-
-abbrev pub IsFormedFirst : OptionalStatement → Type 0
-IsFormedFirst a = FirstHas Is32 Any a
-
-abbrev pub AreFormedIn : Bool → Statements → Type 0
-AreFormedIn looped a = StatementsHave Is32 Any looped a
-
-abbrev pub AreFormedMembers : List ClassMember → Type 0
-AreFormedMembers a = MembersHave Is32 Any a
-
+-- the numbers of a text have 32 bits
 abbrev pub IsFormedProgram : Program → Type 0
 IsFormedProgram a = ProgramHas Is32 Any a
 

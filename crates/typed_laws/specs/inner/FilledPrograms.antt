@@ -1,59 +1,33 @@
 -- The filled program of a library and a text.
-use Rattle.std.specs.Prelude.{ℕ, zero, suc, ◌+◌, Bool, true, false, Option, Some, None, List, [], ◌∷◌, ◌++◌, length, map}
+use Rattle.std.specs.Prelude.{ℕ, suc, ◌+◌, true, false, Option, Some, None, List, [], ◌∷◌, ◌++◌, length, map}
 use Rattle.sts_base.specs.declared.tables.Tables.{Tables}
-use Rattle.sts_syntax.specs.declared.typed.Spot.{Spot}
-use Rattle.sts_syntax.specs.declared.typed.Spot.TheVariants.{Param, Global}
+use Rattle.sts_syntax.specs.declared.typed.Spot.TheVariants.{Global}
 use Rattle.sts_syntax.specs.Types as t
 use Rattle.sts_syntax.specs.Types.{ValueType}
 use Rattle.sts_syntax.specs.TypedTrees as e
-use Rattle.sts_syntax.specs.TypedTrees.{TypedTree, TypedTrees, TypedStatement, TypedStatements, TypedDeclaration, TypedRoutine, ClassEntry}
-use Rattle.sts_syntax.specs.Trees.{Parameter, SuperCall, Statement, Let, Plain, Statements, also, Declaration, Declare, Declarations, ended, next, Routine, Does}
+use Rattle.sts_syntax.specs.TypedTrees.{TypedTree, TypedStatement, TypedStatements, TypedDeclaration, TypedRoutine, ClassEntry}
+use Rattle.sts_syntax.specs.Trees.{SuperCall, Statement, Let, Plain, Statements, also, Declaration, Declare, Declarations, ended, next, Routine, Does}
 use Rattle.sts_syntax.specs.Programs.{ClassMember, Field, Method, Constructor, Class, Function, Main, Program}
-use Rattle.sts_scope.specs.declared.kinds.StaticType.{StaticType}
 use Rattle.sts_scope.specs.declared.entries.Entry.{Entry}
 use Rattle.sts_scope.specs.declared.entries.ClassHead.{ClassHead}
 use Rattle.sts_scope.specs.Scopes.{is_global}
 use Rattle.sts_scope.specs.declared.known.Known.{Known}
 use Rattle.sts_scope.specs.declared.known.This.{This}
 use Rattle.sts_scope.specs.declared.known.This.TheVariants as this
-use Rattle.sts_scope.specs.Kinds.{nothing, value_type, value_types}
+use Rattle.sts_scope.specs.Kinds.{nothing, value_types}
 use Rattle.sts_scope.specs.Entries.{Naming, item_entries, parameter_kinds}
 use Rattle.sts_scope.specs.Lookup.{base_of, member_number}
 use Rattle.sts_scope.specs.Places.{outside}
 use Rattle.sts_scope.specs.Rules.{kind_at, maker_takes_of}
-use Rattle.type_derive.specs.Returns.{parameter_locals, within}
 use Rattle.sts_scope.specs.Handlers.{unwritten, item_routines, declared_handlers, routine_handlers}
 use Rattle.type_derive.specs.Making.{Made}
-use Rattle.type_derive.specs.Programs.{parameter_spots, ◌before◌, passed_on}
+use Rattle.typed_laws.specs.Programs.{◌before◌, super_called, unwritten_made}
 use Rattle.type_derive.specs.inner.Filling.{Making, pure, ◌>=>◌}
 use Rattle.sts_scope.specs.Numbers.{Numbering, global_number, field_names, slot_names, place_among, routine_number, maker_number}
 use Rattle.type_derive.specs.Built.{Site}
-use Rattle.type_derive.specs.inner.Filled.{kind_or_nothing, routine, made_first, made_given, made_statement, made_statements}
+use Rattle.type_derive.specs.inner.Filled.{routine, made_first, made_given, made_statement, made_statements, site, class_result, function_made, method_made}
 
 module _ (tables : Tables) (names : Naming) (k : Known) (numbers : Numbering) where
-  -- a function's site: its parameters stand from the number i on
-  abbrev pub site : This → Option StaticType → Bool → ℕ → List Parameter → Site
-  site self result library i params =
-      record { place = within (parameter_locals names params) self result library; spots = parameter_spots i params }
-
-  abbrev pub class_result : Option StaticType → ValueType
-  class_result o = value_type (kind_or_nothing tables names k numbers o)
-
-  -- a function of the whole text, and the functions in it
-  abbrev pub function_made : Bool → ℕ → Option StaticType → Routine → List TypedRoutine
-  function_made library n result (Does at params gives all arrow) =
-      let made = routine tables names k numbers (value_types (parameter_kinds names params)) (class_result result)
-      (made_statements tables names k numbers (site this.Nowhere result library 0 params) all) n in
-      made.it ∷ made.routines
-
-  -- a method takes `this` first
-  abbrev pub method_made : ℕ → ℕ → Option StaticType → Routine → List TypedRoutine
-  method_made c n result (Does at params gives all arrow) =
-      let made = routine tables names k numbers
-      (t.Object c ∷ value_types (parameter_kinds names params)) (class_result result)
-      (made_statements tables names k numbers (site (this.Object c) result false 1 params) all) n in
-      made.it ∷ made.routines
-
   -- a field's initialiser, and the functions in it
   abbrev pub initial_made : ℕ → ℕ → Declaration → Made (Option TypedTree)
   initial_made c n (Declare at x shape first) =
@@ -64,7 +38,7 @@ module _ (tables : Tables) (names : Naming) (k : Known) (numbers : Numbering) wh
   abbrev pub set_field : ℕ → ℕ → Declaration → Option TypedTree → List TypedStatement
   set_field c d (Declare at x shape first) None = []
   set_field c d (Declare at x shape first) (Some r) =
-      let u = class_result (kind_at k d) in
+      let u = class_result tables names k numbers (kind_at k d) in
       e.Plain (e.Set u None (e.Field u (e.This (t.Object c)) (place_among (field_names k c) x)) r) ∷ []
 
   -- the initialisers of a class's own fields, in text order: members from n and d on
@@ -75,44 +49,22 @@ module _ (tables : Tables) (names : Naming) (k : Known) (numbers : Numbering) wh
   initials c n d (Method x r ∷ rest) = initials c (suc n + routine_handlers r) (suc d) rest
   initials c n d (Constructor r ∷ rest) = initials c (suc n + routine_handlers r) d rest
 
-  -- the call of the base's constructor
-  abbrev pub super_called : ℕ → TypedTrees → TypedStatement
-  super_called b args = e.Plain (e.SuperCall (t.Object b) (maker_number numbers b) args)
-
   -- A written constructor calls its base's first, then come the initialisers, then its own statements.
   abbrev pub made_statements_of : Site → Option ℕ → List TypedStatement → Statements → Making TypedStatements
   made_statements_of s None inits all = made_statements tables names k numbers s all >=> λ xs. pure (inits before xs)
   made_statements_of s (Some b) inits (also (Plain i (SuperCall j None args)) rest) =
       made_given tables names k numbers s (maker_takes_of k.classes b) args
       >=> λ ys. made_statements tables names k numbers s rest
-      >=> λ xs. pure (e.also (super_called b ys) (inits before xs))
+      >=> λ xs. pure (e.also (super_called numbers b ys) (inits before xs))
   made_statements_of s (Some b) inits all =
       made_statements tables names k numbers s all >=> λ xs. pure (inits before xs)
 
   abbrev pub constructor_made : ℕ → ℕ → List TypedStatement → Routine → List TypedRoutine
   constructor_made c n inits (Does at params gives all arrow) =
       let made = routine tables names k numbers (t.Object c ∷ value_types (parameter_kinds names params)) (t.Object c)
-      (made_statements_of (site (this.Object c) (Some nothing) false 1 params) (base_of k.classes c) inits all) n in
+      (made_statements_of (site tables names k numbers (this.Object c) (Some nothing) false 1 params) (base_of k.classes c)
+      inits all) n in
       made.it ∷ made.routines
-
-  -- One that isn't written has its base's parameters and passes them on.
-  abbrev pub passes_on : Option ℕ → List StaticType → List TypedStatement
-  passes_on None takes = []
-  passes_on (Some b) takes = super_called b (passed_on 1 takes) ∷ []
-
-  abbrev pub constructor_unwritten : ℕ → List TypedStatement → TypedRoutine
-  constructor_unwritten c inits =
-      let takes = maker_takes_of k.classes c in
-      record {
-        params = t.Object c ∷ value_types takes;
-        locals = [];
-        gives = t.Object c;
-        all = (passes_on (base_of k.classes c) takes ++ inits) before e.done;
-      }
-
-  abbrev pub unwritten_made : ℕ → ℕ → List TypedStatement → List TypedRoutine
-  unwritten_made zero c inits = []
-  unwritten_made (suc n) c inits = constructor_unwritten c inits ∷ []
 
   -- the functions of members, from n and d on
   abbrev pub members_made : ℕ → List TypedStatement → ℕ → ℕ → List ClassMember → List TypedRoutine
@@ -120,7 +72,8 @@ module _ (tables : Tables) (names : Naming) (k : Known) (numbers : Numbering) wh
   members_made c inits n d (Field a ∷ rest) =
       (initial_made c n a).routines ++ members_made c inits (n + declared_handlers a) (suc d) rest
   members_made c inits n d (Method x r ∷ rest) =
-      method_made c n (kind_at k d) r ++ members_made c inits (suc n + routine_handlers r) (suc d) rest
+      method_made tables names k numbers c n (kind_at k d) r
+      ++ members_made c inits (suc n + routine_handlers r) (suc d) rest
   members_made c inits n d (Constructor r ∷ rest) =
       constructor_made c n inits r ++ members_made c inits (suc n + routine_handlers r) d rest
 
@@ -128,7 +81,7 @@ module _ (tables : Tables) (names : Naming) (k : Known) (numbers : Numbering) wh
   class_made c n d members =
       let first = n + unwritten members in
       let inits = initials c first d members in
-      unwritten_made (unwritten members) c inits ++ members_made c inits first d members
+      unwritten_made k numbers (unwritten members) c inits ++ members_made c inits first d members
 
   -- a declaration of the main program gives a global its first value
   abbrev pub global_made : ℕ → Declaration → Making TypedDeclaration
@@ -155,7 +108,7 @@ module _ (tables : Tables) (names : Naming) (k : Known) (numbers : Numbering) wh
       (n + item_routines (Class at x base base_at members)) rest in
       record { it = behind.it; locals = behind.locals; routines = here ++ behind.routines }
   items_made c d m n (Function x r ∷ rest) =
-      let here = function_made false n (kind_at k d) r in
+      let here = function_made tables names k numbers false n (kind_at k d) r in
       let behind = items_made c (suc d) m (n + item_routines (Function x r)) rest in
       record { it = behind.it; locals = behind.locals; routines = here ++ behind.routines }
   items_made c d m n (Main a ∷ rest) =
@@ -172,13 +125,17 @@ module _ (tables : Tables) (names : Naming) (k : Known) (numbers : Numbering) wh
   abbrev pub library_made : ℕ → ℕ → Program → List TypedRoutine
   library_made d n [] = []
   library_made d n (Function x r ∷ rest) =
-      function_made true n (kind_at k d) r ++ library_made (suc d) (n + item_routines (Function x r)) rest
+      function_made tables names k numbers true n (kind_at k d) r
+      ++ library_made (suc d) (n + item_routines (Function x r)) rest
   library_made d n (i ∷ rest) = library_made d n rest
 
   -- a class by its number: fields and slots are its base's, then its own, and each slot has the nearest method of its name
   abbrev pub member_kind : ℕ → ℕ → ValueType
   member_kind c x =
-      elim (member_number k.entries k.classes c x) [ None ↦ t.Nothing | Some d ↦ class_result (kind_at k d) ]
+      elim (member_number k.entries k.classes c x) [
+        | None ↦ t.Nothing
+        | Some d ↦ class_result tables names k numbers (kind_at k d)
+      ]
 
   abbrev pub member_routine : ℕ → ℕ → ℕ
   member_routine c x = elim (member_number k.entries k.classes c x) [ None ↦ 0 | Some d ↦ routine_number numbers d ]
@@ -198,6 +155,6 @@ module _ (tables : Tables) (names : Naming) (k : Known) (numbers : Numbering) wh
   abbrev pub global_types : ℕ → List Entry → List ValueType
   global_types d [] = []
   global_types d (a ∷ rest) = elim (is_global a.sort) [
-    | true ↦ class_result (kind_at k d) ∷ global_types (suc d) rest
+    | true ↦ class_result tables names k numbers (kind_at k d) ∷ global_types (suc d) rest
     | false ↦ global_types (suc d) rest
   ]

@@ -1,44 +1,21 @@
 -- What `check` answers: the typed program of a text without a failure, else its first failure.
 use Rattle.std.specs.Prelude.{◌≡◌, ℕ, ◌+◌, Option, Some, None, List, [], ◌∷◌, ◌++◌, length}
+use Rattle.sts_base.specs.declared.refused.Code.TheVariants.{OverLimit}
 use Rattle.sts_base.specs.declared.tables.Tables.{Tables}
 use Rattle.sts_syntax.specs.Programs.{Program}
 use Rattle.sts_syntax.specs.TypedTrees.{TypedProgram}
 use Rattle.sts_syntax.specs.TypedTrees as e
 use Rattle.sts_syntax.specs.Types as t
-use Rattle.sts_scope.specs.declared.kinds.StaticType.{StaticType}
-use Rattle.sts_scope.specs.declared.known.Known.{Known}
-use Rattle.sts_scope.specs.Failures.{Failure, ◌then◌}
-use Rattle.sts_scope.specs.Scopes.{all_names, all_entries, all_classes, library_entries, library_classes, heading_refusal}
-use Rattle.type_derive.specs.Typing.{◌>>=◌}
-use Rattle.type_derive.specs.Derived.{TypeTable, Source, sources_from, rule, IsLeast}
-use Rattle.type_derive.specs.Passes.{all_overrides, nodes_failure}
-use Rattle.type_derive.specs.Limits.{limits_failure}
+use Rattle.sts_scope.specs.Failures.{Failure, ◌then◌, unless}
 use Rattle.sts_scope.specs.Handlers.{all_routines}
-use Rattle.type_derive.specs.Making.{Made}
 use Rattle.sts_scope.specs.Numbers.{numbering}
-use Rattle.type_derive.specs.Programs.{items_made, library_made, class_entries, global_types}
-
--- what is known of a library and a text, with this table of types
-abbrev pub known : Program → Program → TypeTable → Known
-known library text kinds = record {
-  entries = all_entries library text;
-  classes = all_classes library text;
-  kinds = kinds;
-  library = library_entries library text;
-}
-
-abbrev pub all_sources : Program → Program → List Source
-all_sources library text = sources_from (all_names library text) 0 (library ++ text)
-
--- how the type of each declaration follows from those of the others
-abbrev pub derivation : Tables → Program → Program → TypeTable → ℕ → Option StaticType
-derivation tables library text kinds d =
-    rule tables (all_names library text) (known library text kinds) (all_sources library text) kinds d
-
--- the types of all declarations: the least table that follows its own rules
-pub record AreDerived (tables : Tables) (library text : Program) (kinds : TypeTable) : Type 0 where
-  pub each : length kinds ≡ length (all_entries library text)
-  pub least : IsLeast (derivation tables library text) kinds
+use Rattle.sts_scope.specs.Scopes.{all_names, library_classes, heading_refusal}
+use Rattle.typed_limits.specs.Limits.{program_fits}
+use Rattle.type_derive.specs.Typing.{◌>>=◌}
+use Rattle.type_derive.specs.Derived.{TypeTable, known, AreDerived}
+use Rattle.type_derive.specs.Passes.{all_overrides, nodes_failure}
+use Rattle.type_derive.specs.Making.{Made}
+use Rattle.typed_laws.specs.Programs.{items_made, library_made, class_entries, global_types}
 
 -- The typed program, where all is there that is looked for: the library's functions, then those of the text, the main program last.
 abbrev pub main_routine : Made e.TypedStatements → e.TypedRoutine
@@ -51,8 +28,8 @@ typed tables library text kinds =
     let numbers = numbering (library ++ text) in
     library_made tables names k numbers 0 0 library
     >>= λ first. items_made tables names k numbers (library_classes library text) k.library 0 (all_routines library) text
-    >>= λ made. class_entries tables names k numbers 0 k.classes
-    >>= λ classes. global_types tables names k numbers 0 k.entries >>= λ globals. Some (record {
+    >>= λ made. class_entries k numbers 0 k.classes
+    >>= λ classes. global_types k 0 k.entries >>= λ globals. Some (record {
       classes = classes;
       functions = first ++ made.routines ++ main_routine made ∷ [];
       globals = globals;
@@ -67,6 +44,10 @@ text_failure tables library text kinds =
     let c = library_classes library text in
     heading_refusal tables.names library text then all_overrides k names c k.library text
     then nodes_failure tables names k c k.library text
+
+-- a counted limit that is passed has no place of its own
+abbrev pub limits_failure : List (List ℕ) → TypedProgram → Option Failure
+limits_failure texts p = unless (program_fits texts p) OverLimit 0
 
 -- the first failure of a text: the counted limits are those of its typed program
 abbrev pub refusal : Tables → Program → Program → TypeTable → Option Failure
@@ -85,9 +66,3 @@ abbrev pub IsRefused : Tables → Program → Program → Failure → Type 0
 IsRefused tables library text f =
     (kinds : TypeTable) × AreDerived tables library text kinds
     × (refusal tables library text kinds ≡ Some f)
-
--- each library and text have derived types
-abbrev pub DerivedTypesExist : Type 0
-DerivedTypesExist =
-    (tables : Tables) (library text : Program) → (kinds : TypeTable)
-    × AreDerived tables library text kinds

@@ -18,7 +18,7 @@ use Rattle.sts_scope.specs.Kinds.{value_type, value_types}
 use Rattle.sts_scope.specs.Lookup.{base_of, sort_of}
 use Rattle.sts_scope.specs.Rules.{class_part, kind_at, takes_at, maker_takes_of}
 use Rattle.type_derive.specs.Typing.{super_method}
-use Rattle.type_derive.specs.Libraries.{taken}
+use Rattle.typed_laws.specs.Libraries.{taken}
 use Rattle.sts_scope.specs.Numbers.{Numbering, global_number, field_names, slot_names, place_among, routine_number}
 
 -- a type that values have: `[]` alone has none
@@ -48,7 +48,7 @@ pub record Stands (tables : Tables) (k : Known) (numbers : Numbering) (P : Typed
   pub makers : (d c : ℕ) → sort_of k.entries d ≡ Some (sort.Class c)
       → (class : ClassEntry) × HasClass P c class
       × IsMember P c class.maker (value_types (maker_takes_of k.classes c)) (t.Object c)
-  pub supers : (c m d : ℕ) (u : StaticType) → super_method tables k (this.Object c) m ≡ Some d → kind_at k d ≡ Some u
+  pub supers : (c m d : ℕ) (u : StaticType) → super_method k (this.Object c) m ≡ Some d → kind_at k d ≡ Some u
       → (class : ClassEntry) × (base : ℕ) × (s : ℕ) × (above : ClassEntry) × HasClass P c class
       × (class.base ≡ Some base) × HasClass P base above
       × (entry above.slots s ≡ Some (routine_number numbers d))
