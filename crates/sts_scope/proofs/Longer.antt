@@ -17,8 +17,7 @@ use Rattle.std.specs.Option.{option_and_then, option_map_or, option_or, unwrap_o
 use Rattle.sts_scope.specs.Lookup.{base_of, entry_number, member_from, member_number}
 use Rattle.sts_scope.specs.Bases.{is_endless, above as class_above}
 use Rattle.sts_scope.specs.Rules.{reaches, maker_from, maker_takes_of}
-use Rattle.sts_scope.specs.Lines.{takes_of, IsLine, AreLines, at}
-use Rattle.sts_scope.specs.inner.Lines.{no_line, nearest_maker}
+use Rattle.sts_scope.specs.Lines.{takes_of, IsLine, AreLines, at, no_line, nearest_maker}
 use Rattle.sts_scope.proofs.Puts.{noted, IsPut}
 
 -- members that are put into a map

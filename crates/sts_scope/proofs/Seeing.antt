@@ -2,7 +2,7 @@
 use Rattle.std.proofs.Common.{◌≡◌, ℕ, zero, suc, ◌<◌, refl, sym, subst, arith, Bool, true, false, Option, Some, None, List, [], ◌∷◌, ◌++◌}
 use Rattle.std.specs.Prelude.{get_or, set, not, if◌then◌else◌}
 use Rattle.sts_scope.specs.declared.entries.ClassHead.{ClassHead}
-use Rattle.sts_scope.specs.inner.Lines.{GoesUp}
+use Rattle.sts_scope.specs.Lines.{GoesUp}
 use Rattle.std.proofs.lemmas.List.{append-nil}
 
 -- how many aren't seen

@@ -17,4 +17,3 @@ pub mod Known
 pub mod Rows
 pub mod Handlers
 pub mod Numbers
-pub mod inner

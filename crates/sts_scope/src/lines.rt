@@ -10,7 +10,6 @@ ghost use Rattle.sts_scope.specs.Lookup as look;
 ghost use Rattle.sts_scope.specs.Bases.{is_endless};
 ghost use Rattle.sts_scope.specs.Rules as rule;
 ghost use Rattle.sts_scope.specs.Lines as lines;
-ghost use Rattle.sts_scope.specs.inner.Lines as inner;
 ghost use Rattle.sts_scope.specs.Lines.{IsLine, AreLines};
 
 use crate::lookup::{base_of, is_endless, maker_takes, reaches};
@@ -61,7 +60,7 @@ fn line_at(all: &Table<Option<Line>>, c: usize) -> Option<&Line>
 
 /// The line above a class that has no base.
 fn no_line() -> Line
-    ensures { result ≡ inner.no_line }
+    ensures { result ≡ lines.no_line }
 {
     Line {
         len: 0,
@@ -73,7 +72,7 @@ fn no_line() -> Line
 
 /// The nearest class with a written constructor, where the base's is known.
 fn nearest_maker(class: &ClassHead, c: u32, above: Option<u32>) -> Option<u32>
-    ensures { result ≡ inner.nearest_maker class.now c above }
+    ensures { result ≡ lines.nearest_maker class.now c above }
 {
     match class.takes {
         Some(_) => Some(c),
@@ -193,7 +192,7 @@ fn see(
     c: u32,
 ) -> Result<(), NoMemory>
     ensures { OnOk result ((these : List ℕ) × (order.new.items ≡ order.old.items ++ these)
-        × inner.GoesUp classes.now seen.old seen.new (Some c) these) }
+        × lines.GoesUp classes.now seen.old seen.new (Some c) these) }
 {
     let mut next = Some(c);
     while let Some(c) = next {
