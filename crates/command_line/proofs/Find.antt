@@ -1,13 +1,12 @@
 -- Rows, found by the names of their arguments.
 use Rattle.std.proofs.Common.{◌≡◌, List, [], ◌∷◌, ◌++◌, refl, sym, ap, ◌∙◌, Bool, true, false}
-use Rattle.std.specs.Prelude.{Option, Some, None, is_some, if◌then◌else◌, cond, ◌||◌}
+use Rattle.std.specs.Prelude.{Option, Some, None, is_some, find, if◌then◌else◌, cond, ◌||◌}
 use Rattle.std.specs.Option.{option_or}
 use Rattle.std.specs.Str.{bytes_eq}
 use Rattle.std.proofs.lemmas.List.Folds.{find-append}
 use Rattle.std.proofs.lemmas.Bool.{false≢true}
 use Rattle.clap.specs.Words.{Text, Row}
 use Rattle.clap.specs.Walk.{at_row, has_row}
-use Rattle.command_line.specs.Found.{row_at}
 
 never-found : {A : Type 0} (b : Bool) (r : Row) (o : Option Row) (x : A) → cond b (Some r) o ≡ None → b ≡ false
 never-found true r o x e = cc
@@ -16,6 +15,10 @@ never-found false r o x e = refl
 behind : (b : Bool) (r : Row) (o : Option Row) → b ≡ false → cond b (Some r) o ≡ o
 behind true r o e = absurd (false≢true (sym e))
 behind false r o e = refl
+
+-- what was found for the argument of this name
+abbrev pub row_at : Text → List Row → Option Row
+row_at id rows = find (λ r. bytes_eq r.id id) rows
 
 -- a change of a row that isn't there is what stands for it, at the end
 pub at_row-missing : (id : Text) (change : Row → List Row) (missing rows : List Row) → row_at id rows ≡ None → at_row id change missing rows ≡ rows ++ missing

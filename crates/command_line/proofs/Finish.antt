@@ -9,8 +9,8 @@ use Rattle.clap.specs.Walk.{has_row, with_default, with_values, reading_by, row_
 use Rattle.clap.specs.Takes.{is_given}
 use Rattle.clap.specs.declared.parser.matches.ValueSource.TheVariants.{DefaultValue}
 use Rattle.sts_words.specs.Words.{Said}
-use Rattle.command_line.specs.Found.{row_at, flag_text, SpellsBudget, Says}
-use Rattle.command_line.proofs.Find.{at_row-missing, row_at-same, row_at-other, has_row-is}
+use Rattle.command_line.specs.Found.{flag_text, SpellsBudget, Says}
+use Rattle.command_line.proofs.Find.{row_at, at_row-missing, row_at-same, row_at-other, has_row-is}
 use Rattle.command_line.proofs.Steps.{rules, row_for, name_built, script_built, arrivals_built, stats_built, image_built}
 use Rattle.command_line.proofs.Has.{Has, HasBudgetRow, flag_row, name_row}
 

@@ -2,7 +2,7 @@
 use Rattle.std.proofs.Common.{◌≡◌, ℕ, ◌≤◌, List, [], ◌∷◌, length, refl, sym, ap, ◌∙◌, subst, Bool, true, false, codes, arith}
 use Rattle.std.specs.Prelude.{◌||◌, Option, Some, None, slice_get, option_and_then, Box}
 use Rattle.std.specs.Option.{option_map}
-use Rattle.clap.specs.Words.{Text, Row, Rule, App, app_of, rule_of, with_rule, first_value, one_of, rows_of, subcommand_rows_of, subcommand_name_of, AddsArg}
+use Rattle.clap.specs.Words.{Text, Row, first_of, Rule, App, app_of, rule_of, with_rule, first_value, one_of, rows_of, subcommand_rows_of, subcommand_name_of, AddsArg}
 use Rattle.clap.specs.Matches.{one_text}
 use Rattle.clap.specs.declared.parser.matches.Found.{Found}
 use Rattle.clap.specs.declared.parser.matches.ArgMatches.{ArgMatches}
@@ -14,11 +14,10 @@ use Rattle.clap.specs.declared.parser.matches.ArgMatches.TheViews.{out-ArgMatche
 use Rattle.clap.specs.declared.parser.matches.SubCommand.{SubCommand}
 use Rattle.std.specs.Box.{box_value}
 use Rattle.clap.proofs.WalkLemmas.{first_value-rows, one_text-rows}
-use Rattle.sts_words.specs.Numbers.{number_within}
 use Rattle.sts_words.specs.Orders.{most_budget}
-use Rattle.sts_words.specs.Words.{Said, a_budget}
-use Rattle.sts_words.specs.Reading.{budget_part, added}
-use Rattle.command_line.specs.Found.{Says, SpellsBudget, flag_text, text_at}
+use Rattle.sts_words.specs.Words.{Said, a_budget, number_within}
+use Rattle.sts_words.specs.Views.{budget_part, added}
+use Rattle.command_line.specs.Found.{Says, SpellsBudget, flag_text}
 
 -- ---- names
 
@@ -69,7 +68,7 @@ no-number None text h e = refl
 no-number (Some number) text (word, is, spelled) e = let bad : ⊥ = cc in absurd bad
 
 pub no-budget : (f : Found) (said : Said) → Says said (rows_of f) → None ≡ first_value f (codes "budget") → None ≡ said.budget
-no-budget f said says e = no-number said.budget (text_at (codes "budget") (rows_of f)) says.budget (sym (e ∙ first_value-rows f (codes "budget")))
+no-budget f said says e = no-number said.budget (first_of (codes "budget") (rows_of f)) says.budget (sym (e ∙ first_value-rows f (codes "budget")))
 
 -- the number that is spelled
 pub record Numbered (budget : Option ℕ) (word : Text) : Type 0 where
@@ -84,7 +83,7 @@ some-number (Some number) text word (there, is, spelled) e =
     record { number = number; is = refl; spelled = subst (λ x. number_within most_budget x ≡ Some number) same spelled }
 
 pub numbered : (f : Found) (said : Said) (word : Text) → Says said (rows_of f) → Some word ≡ first_value f (codes "budget") → Numbered said.budget word
-numbered f said word says e = some-number said.budget (text_at (codes "budget") (rows_of f)) word says.budget (sym (e ∙ first_value-rows f (codes "budget")))
+numbered f said word says e = some-number said.budget (first_of (codes "budget") (rows_of f)) word says.budget (sym (e ∙ first_value-rows f (codes "budget")))
 
 pub with-number : (names : List Text) (stats image : Bool) (word : Text) (number : ℕ) → number_within most_budget word ≡ Some number
     → option_and_then (λ part. added (said_of names None stats image) part) (budget_part word) ≡ Some (said_of names (Some number) stats image)

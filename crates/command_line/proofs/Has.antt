@@ -4,11 +4,9 @@ use Rattle.std.specs.Prelude.{Option, Some, None, is_some, slice_get, ifâ—Œthenâ
 use Rattle.std.specs.Option.{option_map}
 use Rattle.clap.specs.Words.{Row, Rule, Text}
 use Rattle.clap.specs.Walk.{has_row}
-use Rattle.sts_words.specs.Numbers.{number_within}
 use Rattle.sts_words.specs.Orders.{most_budget}
-use Rattle.sts_words.specs.Words.{Said}
-use Rattle.command_line.specs.Found.{row_at}
-use Rattle.command_line.proofs.Find.{row_at-same, row_at-other, has_row-is}
+use Rattle.sts_words.specs.Words.{Said, number_within}
+use Rattle.command_line.proofs.Find.{row_at, row_at-same, row_at-other, has_row-is}
 use Rattle.command_line.proofs.Steps.{row_for, name_built, script_built, arrivals_built, budget_built, stats_built, image_built}
 
 -- the row of a budget

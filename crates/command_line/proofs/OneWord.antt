@@ -7,10 +7,9 @@ use Rattle.std.proofs.lemmas.Bool.{false≢true, lt-leb}
 use Rattle.clap.specs.Words.{Row, Text}
 use Rattle.clap.specs.Walk.{Walk, idle, option, walked, used}
 use Rattle.sts_words.specs.Orders.{most_budget}
-use Rattle.sts_words.specs.Numbers.{number_within}
-use Rattle.sts_words.specs.Words.{a_name, a_budget, the_stats, the_image, Said, is_name}
-use Rattle.sts_words.specs.Reading.{behind_budget, joined_part, part_of, added, next}
-use Rattle.sts_words.proofs.Laws.{same-text, joined-text, Plain, name-plain}
+use Rattle.sts_words.specs.Words.{a_name, a_budget, the_stats, the_image, Said, number_within, is_name}
+use Rattle.sts_words.specs.Views.{behind_budget, joined_part, part_of, added}
+use Rattle.sts_words.proofs.Laws.{same-text, joined-text, Plain, name-plain, next}
 use Rattle.command_line.proofs.Spelled.{number-plain}
 use Rattle.command_line.proofs.Steps as step
 use Rattle.command_line.proofs.Steps.{at, held, rules, whole, Settles, Passes, name_built, script_built, arrivals_built, budget_built, stats_built, image_built, row_for, first-use}

@@ -5,9 +5,8 @@ use Rattle.clap.specs.Words.{Rule, Shape, Row, Text}
 use Rattle.clap.specs.Simple.{filled, filled_from, with_index, built_leaf}
 use Rattle.clap.specs.Walk.{Held, Walk, Waiting, idle, option, walked, settled_rows, used, has_row, reading_by, with_values, without, more_values}
 use Rattle.clap.specs.declared.builder.value_parser.Reading.{Reading}
-use Rattle.command_line.proofs.Find.{at_row-missing}
+use Rattle.command_line.proofs.Find.{row_at, at_row-missing}
 use Rattle.clap.specs.declared.parser.matches.ValueSource.TheVariants.{CommandLine}
-use Rattle.command_line.specs.Found.{row_at}
 use Rattle.clap.specs.Takes.{turn_passes, settle_passes}
 use Rattle.clap.proofs.OnLiterals.{clap_on_literals}
 use Rattle.command_line.specs.Tool.{command_app, name_rule, script_rule, arrivals_rule, budget_rule, stats_rule, image_rule}

@@ -9,12 +9,11 @@ use Rattle.std.proofs.lemmas.Bool.{false≢true}
 use Rattle.sts_words.specs.declared.order.Order.{Order}
 use Rattle.clap.specs.Simple.{built, rows_at, names_of, entered, label_of}
 use Rattle.clap.specs.Walk.{Names, stop_after, answers_to, Walk, idle, walked, walk, walk_from, nothing_held, finished, rows_after}
-use Rattle.sts_words.proofs.Laws.{same-text}
+use Rattle.sts_words.proofs.Laws.{same-text, order_of, said_with}
 use Rattle.clap.specs.Takes.{entered_passes, is_valid, built_takes, walk_passes, turn_passes, level_passes, is_given, settle_passes}
 use Rattle.clap.proofs.OnLiterals.{clap_on_literals}
 use Rattle.sts_words.specs.Orders.{Asked, order_view}
 use Rattle.sts_words.specs.Words.{Said, asked_by, IsAskedBy, nothing}
-use Rattle.sts_words.specs.Reading.{order_of, said_with}
 use Rattle.command_line.specs.Found.{Says}
 use Rattle.command_line.specs.Tool.{tool_app}
 use Rattle.command_line.proofs.Steps.{rules, shape, whole}

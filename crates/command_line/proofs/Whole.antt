@@ -5,8 +5,7 @@ use Rattle.clap.specs.Words.{Text}
 use Rattle.clap.specs.Walk.{Walk, walked, walk_from, nothing_held}
 use Rattle.clap.specs.Takes.{walk_passes}
 use Rattle.sts_words.specs.Words.{Said, nothing}
-use Rattle.sts_words.specs.Reading.{said_with, next}
-use Rattle.sts_words.proofs.Laws.{one-word, all-said}
+use Rattle.sts_words.proofs.Laws.{one-word, all-said, said_with, next}
 use Rattle.command_line.proofs.Steps.{rules, shape}
 use Rattle.command_line.proofs.Has.{has-nothing}
 use Rattle.command_line.proofs.OneWord.{Ready, Stands, Goes, word-goes}

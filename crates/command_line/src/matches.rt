@@ -5,7 +5,7 @@ ghost use Rattle.clap.specs.Words.{Row, rows_of, found_of, subcommand_rows_of};
 ghost use Rattle.sts_words.specs.Orders.{order_view, IsInRange, HasBudget};
 ghost use Rattle.sts_words.specs.Views.{said_view, names_view};
 ghost use Rattle.sts_words.specs.Words.{Said, asked_by};
-ghost use Rattle.command_line.specs.Found.{text_at, Says};
+ghost use Rattle.command_line.specs.Found.{Says};
 
 use clap::ArgMatches;
 use sts_words::{Given, Names, Order, asked_by};

@@ -1,4 +1,5 @@
 mod Digits
 pub mod Laws
 mod Parts
+mod Reader
 mod Spelled

@@ -8,7 +8,8 @@ use Rattle.std.specs.Option.{option_map}
 use Rattle.std.specs.Str.{bytes_eq}
 use Rattle.sts_words.specs.Orders.{Asked}
 use Rattle.sts_words.specs.Words.{Part, a_name, a_budget, the_stats, the_image, Said, asked_by, nothing, all_also_said, said_by}
-use Rattle.sts_words.specs.Reading.{budget_part, part_of, parts_from, in_front, added, added_all, said_with, next}
+use Rattle.sts_words.specs.Views.{budget_part, part_of, added}
+use Rattle.sts_words.proofs.Reader.{parts_from, in_front, added_all, said_with, next}
 
 -- where more than three names stand, a command asks for nothing
 same-else : {A : Type 0} (b : Bool) (x : A) → (if b then x else x) ≡ x
@@ -111,7 +112,7 @@ one-word s true word rest = one-part s (budget_part word) (parts_from false rest
 one-word s false word rest = by-word s word rest (bytes_eq word (codes "--budget"))
 
 -- the words from a place on, as texts
-texts-from : {A : Type 0} (f : A → List ℕ) (words : List A) (i : ℕ) (word : A) (text : List ℕ) → i < length words → word ≡ get_or words i word → text ≡ f word
+pub texts-from : {A : Type 0} (f : A → List ℕ) (words : List A) (i : ℕ) (word : A) (text : List ℕ) → i < length words → word ≡ get_or words i word → text ≡ f word
     → map f (drop i words) ≡ text ∷ map f (drop (i + 1) words)
 texts-from f words i word text h e t =
     let next : suc i ≡ i + 1 = omega arith in

@@ -1,16 +1,16 @@
 -- Words are read as the parts that they spell.
-use Rattle.std.proofs.Common.{◌≡◌, ℕ, List, [], ◌∷◌, ◌++◌, take, drop, refl, sym, ap, ◌∙◌, subst, inl, inr, eqb}
+use Rattle.std.proofs.Common.{◌≡◌, ℕ, ◌<◌, ◌-◌, arith, List, [], ◌∷◌, ◌++◌, length, take, drop, get_or, map, refl, sym, ap, ◌∙◌, subst, inl, inr, eqb}
 use Rattle.std.specs.Prelude.{Bool, true, false, not, ◌&&◌, if◌then◌else◌, codes, option_and_then, Option, Some, None}
 use Rattle.std.specs.Option.{option_map}
 use Rattle.std.specs.Str.{bytes_eq}
 use Rattle.std.proofs.lemmas.Bool.{false≢true}
 use Rattle.std.proofs.lemmas.Slice.Eq.{bytes_eq-Decides}
-use Rattle.std.proofs.lemmas.List.{take-append-drop}
-use Rattle.sts_words.specs.Numbers.{number_within}
+use Rattle.std.proofs.lemmas.List.{take-append-drop, take_all, length-drop}
 use Rattle.sts_words.specs.Orders.{Asked, most_budget}
-use Rattle.sts_words.specs.Words.{Part, a_name, a_budget, the_stats, the_image, is_name, SpellPart, Spell, nothing, asked_by, AskFor, IsAskedBy}
-use Rattle.sts_words.specs.Reading.{behind_budget, budget_part, joined_part, part_of, in_front, parts_from, added_all, order_of}
-use Rattle.sts_words.proofs.Parts.{asked-from-nothing}
+use Rattle.sts_words.specs.Words.{Part, a_name, a_budget, the_stats, the_image, is_name, number_within, SpellPart, Spell, nothing, asked_by, AskFor, IsAskedBy}
+use Rattle.sts_words.specs.Views.{behind_budget, budget_part, joined_part, part_of}
+use Rattle.sts_words.proofs.Reader.{in_front, parts_from, added_all, order_of}
+use Rattle.sts_words.proofs.Parts.{asked-from-nothing, texts-from}
 
 -- a word that is equal to a text is that text
 pub same-text : (word text : List ℕ) → bytes_eq word text ≡ true → word ≡ text
@@ -186,6 +186,16 @@ asked-is words None h = by_order (order_of words) refl
     by_order : (o : Option Asked) → order_of words ≡ o → None ≡ order_of words
     by_order None e = sym e
     by_order (Some asked) e = absurd (h asked (ask-for words asked e))
+
+-- what a command asks for by the words behind it is what all of them ask for
+behind-all : {A : Type 0} (words : List A) → take (length words - 1) (drop 1 words) ≡ drop 1 words
+behind-all words = take_all (length words - 1) (drop 1 words) (let same : length (drop 1 words) ≡ length words - 1 = length-drop 1 words in omega (arith, same))
+
+pub asked-behind : {A : Type 0} (f : A → List ℕ) (words : List A) (word : A) (command : List ℕ) (asked given : Option Asked) → 0 < length words → word ≡ get_or words 0 word → command ≡ f word
+    → given ≡ asked → IsAskedBy (command ∷ map f (take (length words - 1) (drop 1 words))) asked → IsAskedBy (map f words) given
+asked-behind f words word command asked given some first text same is =
+    subst (λ w. IsAskedBy w given) (sym (texts-from f words 0 word command some first text))
+    (subst (λ a. IsAskedBy (command ∷ map f (drop 1 words)) a) (sym same) (subst (λ w. IsAskedBy (command ∷ map f w) asked) (behind-all words) is))
 
 pub one-asked : (words : List (List ℕ)) (first second : Option Asked) → IsAskedBy words first → IsAskedBy words second → first ≡ second
 one-asked words first second a b = asked-is words first a ∙ sym (asked-is words second b)

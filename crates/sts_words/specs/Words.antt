@@ -1,8 +1,10 @@
 -- Which lists of words are taken, and what they ask for.
-use Rattle.std.specs.Prelude.{◌≡◌, ◌⊎◌, ℕ, ◌==◌, ◌&&◌, ◌||◌, is_some, Bool, true, false, not, List, [], ◌∷◌, ◌++◌, unwrap_or, if◌then◌else◌, codes, option_and_then, Option, Some, None, IsTrue}
+use Rattle.std.specs.Prelude.{◌≡◌, ◌⊎◌, ℕ, nat_le, ◌==◌, ◌&&◌, ◌||◌, is_some, Bool, true, false, not, List, [], ◌∷◌, ◌++◌, length, unwrap_or, if◌then◌else◌, codes, option_and_then, Option, Some, None, IsTrue}
+use Rattle.std.specs.Char.{is_ascii_digit}
+use Rattle.std.specs.List.{list_all}
 use Rattle.std.specs.Option.{option_map}
 use Rattle.std.specs.Str.{bytes_eq}
-use Rattle.sts_words.specs.Numbers.{number_within}
+use Rattle.std.specs.Str.Parse.{digits_value}
 use Rattle.sts_words.specs.Orders.{Asked, check_program, build_program, run_program, run_image, run_at, run_class, run_big, most_budget, default_budget, most_size}
 
 -- A part of the words behind a command: a name, `--budget M` or `--budget=M`, `--stats`, or `--image`.
@@ -11,6 +13,17 @@ pub data Part : Type 0 where
   a_budget : (number : ℕ) → Part
   the_stats : Part
   the_image : Part
+
+-- A number is written as one to ten decimal digits.
+abbrev pub is_number : List ℕ → Bool
+is_number word = nat_le 1 (length word) && nat_le (length word) 10 && list_all is_ascii_digit word
+
+-- the number from 1 to `most` that a word is
+abbrev pub number_within : ℕ → List ℕ → Option ℕ
+number_within most word =
+    if is_number word && nat_le 1 (digits_value 10 word) && nat_le (digits_value 10 word) most
+    then Some (digits_value 10 word)
+    else None
 
 -- A name isn't empty and doesn't begin with a dash.
 abbrev pub is_name : List ℕ → Bool

@@ -3,7 +3,7 @@ ghost use Rattle.std.specs.Prelude.{◌≡◌, ◌<◌, ◌≤◌, ◌^◌, true
 ghost use Rattle.std.specs.Char.{is_ascii_digit};
 ghost use Rattle.std.specs.List.{list_all};
 ghost use Rattle.std.specs.Str.Parse.{digits_value};
-ghost use Rattle.sts_words.specs.Numbers.{is_number, number_within};
+ghost use Rattle.sts_words.specs.Words.{is_number, number_within};
 
 /// Whether each byte is a decimal digit.
 fn are_digits(bytes: &[u8]) -> bool

@@ -1,11 +1,10 @@
 // The words, read.
-ghost use Rattle.std.specs.Prelude.{◌≡◌, IfSome, false, map, string_bytes, option_and_then, unwrap_or};
+ghost use Rattle.std.specs.Prelude.{◌≡◌, List, ℕ, Bool, IfSome, Some, true, false, ◌∷◌, map, string_bytes, option_and_then, unwrap_or, codes, if◌then◌else◌};
 ghost use Rattle.std.specs.Option.{option_map};
+ghost use Rattle.std.specs.Str.{bytes_eq};
 ghost use Rattle.sts_words.specs.Orders.{order_view, IsInRange, IsBudget, HasBudget, default_budget};
 ghost use Rattle.sts_words.specs.Words as spec;
-ghost use Rattle.sts_words.specs.Words.{nothing};
-ghost use Rattle.sts_words.specs.Views.{said_view, names_view, named_view, next_view, spoken};
-ghost use Rattle.sts_words.specs.Reading.{next, order_of, said_with};
+ghost use Rattle.sts_words.specs.Views.{added, budget_part, names_view, part_of, said_view, spoken};
 
 use crate::numbers::read_number;
 use crate::order::Order;
@@ -19,7 +18,12 @@ const MOST_SIZE: u32 = 200;
 
 /// What is said with one more word, and whether the number of a budget is due behind it. `awaits` says whether the word is to be one.
 fn with_word<'a>(given: Given<'a>, awaits: bool, word: &'a str) -> Option<(Given<'a>, bool)>
-    ensures next { option_map next_view result ≡ next (said_view given.entry) awaits word.entry.now }
+    ensures next { option_map {U = spec.Said × Bool} (λ after. (said_view after.0, after.1)) result
+        ≡ (if awaits then option_map (λ more. (more, false))
+        (option_and_then (added (said_view given.entry)) (budget_part word.entry.now))
+        else if bytes_eq word.entry.now (codes "--budget") then Some (said_view given.entry, true)
+        else option_map (λ more. (more, false))
+        (option_and_then (added (said_view given.entry)) (part_of word.entry.now))) }
     ensures range { HasBudget given.entry.budget → IfSome result (λ after. HasBudget after.0.budget) }
 {
     if awaits {
@@ -31,10 +35,11 @@ fn with_word<'a>(given: Given<'a>, awaits: bool, word: &'a str) -> Option<(Given
     }
 }
 
-/// What the words behind a command say, if each is a part and each option stands at most once.
+/// What the words behind a command say, if each is a part and each option stands at most once: what a command asks for by that, if it does, is what
+/// the words with the command in front ask for.
 fn given_by<'a>(words: &'a [String]) -> Option<Given<'a>>
-    ensures said { option_map said_view result
-        ≡ said_with nothing false (map string_bytes words.now) }
+    ensures said { (command : List ℕ) → spec.IsAskedBy (command ∷ map string_bytes words.now)
+        (option_and_then (spec.asked_by command) (option_map said_view result)) }
     ensures range { IfSome result (λ given. HasBudget given.budget) }
 {
     let mut so_far = (Given::nothing(), false);
@@ -56,7 +61,7 @@ fn one_name<'a>(names: Names<'a>) -> Option<&'a str>
 
 /// One name, and that of a script or none.
 fn with_script<'a>(names: Names<'a>) -> Option<(&'a str, Option<&'a str>)>
-    ensures { option_map named_view result ≡ spec.with_script (names_view names.entry) }
+    ensures { option_map (λ named. (named.0.now, option_map spoken named.1)) result ≡ spec.with_script (names_view names.entry) }
 {
     match names {
         Names::Nothing | Names::Three(_, _, _) => None,
@@ -200,22 +205,14 @@ pub fn asked_by<'a>(command: &str, given: Given<'a>) -> Option<Order<'a>>
     }
 }
 
-/// The same as `read_words`, by the reader as a function on lists.
-fn read_in_turn<'a>(words: &'a [String]) -> Option<Order<'a>>
-    ensures order { option_map order_view result ≡ order_of (map string_bytes words.now) }
-    ensures range { IfSome result IsInRange }
-{
-    match words {
-        [command, rest @ ..] => asked_by(command.as_str(), given_by(rest)?),
-        [] => None,
-    }
-}
-
 /// What the words ask for, those behind the program's name, if they are taken: a command, and behind it, in any order, its names in
 /// their order and its options, each at most once. `--budget` is one word with its number behind `=`, or two.
 pub fn read_words<'a>(words: &'a [String]) -> Option<Order<'a>>
     ensures order { spec.IsAskedBy (map string_bytes words.now) (option_map order_view result) }
     ensures range { IfSome result IsInRange }
 {
-    read_in_turn(words)
+    match words {
+        [command, rest @ ..] => asked_by(command.as_str(), given_by(rest)?),
+        [] => None,
+    }
 }

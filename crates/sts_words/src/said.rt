@@ -3,9 +3,8 @@ ghost use Rattle.std.specs.Prelude.{◌≡◌, None, IfSome, option_and_then};
 ghost use Rattle.std.specs.Option.{option_map};
 ghost use Rattle.sts_words.specs.Orders.{HasBudget};
 ghost use Rattle.sts_words.specs.Words as spec;
-ghost use Rattle.sts_words.specs.Reading.{added, behind_budget, budget_part, name_part, part_of};
 ghost use Rattle.sts_words.specs.Words.{nothing};
-ghost use Rattle.sts_words.specs.Views.{said_view, spoken};
+ghost use Rattle.sts_words.specs.Views.{added, behind_budget, budget_part, name_part, part_of, said_view, spoken};
 
 use crate::numbers::read_number;
 

@@ -2,7 +2,7 @@ use Rattle.std.proofs.Common.{◌≡◌, drop}
 use Rattle.std.specs.Prelude.{false, map, string_bytes}
 use Rattle.sts_words.specs.Orders.{HasBudget}
 use Rattle.sts_words.specs.Views.{said_view}
-use Rattle.sts_words.specs.Reading.{said_with}
+use Rattle.sts_words.proofs.Reader.{said_with}
 use Rattle.sts_words.specs.Words.{nothing}
 use Rattle.sts_words.proofs.reading.given_by.Given as goal
 

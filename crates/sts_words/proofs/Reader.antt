@@ -1,33 +1,10 @@
 -- The reader of the words behind a command, as a function on lists: what `Given` has after one word more. What words ask for is said without it.
-use Rattle.std.specs.Prelude.{ℕ, nat_le, Bool, true, false, List, [], ◌∷◌, length, take, drop, if◌then◌else◌, codes, option_and_then, Option, Some, None}
+use Rattle.std.specs.Prelude.{ℕ, Bool, true, false, List, [], ◌∷◌, if◌then◌else◌, codes, option_and_then, Option, Some, None}
 use Rattle.std.specs.Option.{option_map}
 use Rattle.std.specs.Str.{bytes_eq}
-use Rattle.sts_words.specs.Numbers.{number_within}
-use Rattle.sts_words.specs.Orders.{Asked, most_budget}
-use Rattle.sts_words.specs.Words.{Part, a_name, a_budget, the_stats, the_image, Said, is_name, nothing, also_said, asked_by}
-
--- what stands behind `--budget=` in a word that begins so
-abbrev pub behind_budget : List ℕ → Option (List ℕ)
-behind_budget word = if bytes_eq (take 9 word) (codes "--budget=") then Some (drop 9 word) else None
-
--- the budget that a word is
-abbrev pub budget_part : List ℕ → Option Part
-budget_part word = option_map a_budget (number_within most_budget word)
-
-abbrev pub name_part : List ℕ → Option Part
-name_part word = if is_name word then Some (a_name word) else None
-
--- the part that a word is, where this stands behind `--budget=`, or is else
-abbrev pub joined_part : Option (List ℕ) → List ℕ → Option Part
-joined_part (Some number) word = budget_part number
-joined_part None word = name_part word
-
--- the part that one word is
-abbrev pub part_of : List ℕ → Option Part
-part_of word =
-    if bytes_eq word (codes "--stats") then Some the_stats
-    else if bytes_eq word (codes "--image") then Some the_image
-    else joined_part (behind_budget word) word
+use Rattle.sts_words.specs.Orders.{Asked}
+use Rattle.sts_words.specs.Words.{Part, Said, nothing, asked_by}
+use Rattle.sts_words.specs.Views.{budget_part, part_of, added}
 
 -- a part in front of others, where all are parts
 abbrev pub in_front : Option Part → Option (List Part) → Option (List Part)
@@ -42,12 +19,7 @@ parts_from awaits (word ∷ rest) =
     else if bytes_eq word (codes "--budget") then parts_from true rest
     else in_front (part_of word) (parts_from false rest)
 
--- what is said with one more part; no command takes a fourth name, so none is read
-abbrev pub added : Said → Part → Option Said
-added said (a_name word) = if nat_le (length said.names) 2 then also_said said (a_name word) else None
-added said part = also_said said part
-
--- the same with parts in turn
+-- what is said with parts in turn
 unfoldable pub added_all : Said → List Part → Option Said
 added_all said [] = Some said
 added_all said (part ∷ rest) = option_and_then (λ more. added_all more rest) (added said part)
