@@ -5,10 +5,10 @@ use Rattle.board_world.specs.declared.events.Event.{Event}
 use Rattle.board_world.specs.Observations.{Observation}
 use Rattle.board_world.specs.Board.{Entry, Raise}
 use Rattle.board_world.specs.Before.{IsRisingFrom, is_by_clock}
-use Rattle.class_world.specs.Hearing.{inserted, with_heard, raised_at, heard_events}
+use Rattle.class_world.specs.Hearing.{inserted, with_heard, raised_at}
 use Rattle.class_world.specs.Classes.{world_before}
 use Rattle.class_world.specs.Keeping.{with_kept}
-use Rattle.class_world.proofs.Laws.{given_so_far}
+use Rattle.class_world.proofs.Laws.{heard_events, given_so_far}
 use Rattle.class_steps.specs.Outlook.{IsSeenAs, next_with}
 use Rattle.class_steps.proofs.Laws.{hears}
 use Rattle.bank_model.specs.BoardMachine.{fibers}

@@ -15,7 +15,7 @@ use Rattle.class_radio.specs.declared.player.Standing.{Standing}
 use Rattle.board_run.specs.Represents.{end_of}
 use Rattle.class_radio.specs.Playing.{standing_of, outlook}
 use Rattle.class_radio.specs.Stepped.{outlooks}
-use Rattle.class_radio.specs.Closing.{IsLed, AreLed, some_due, latest_clock, last_line_of, end_line_of, ends_of, stands_same, how_many_stand}
+use Rattle.class_radio.specs.Closing.{IsLed, AreLed, some_due, latest_clock, last_line_of, end_line_of, stands_same, how_many_stand}
 
 -- a line behind the lead of a number
 pub led_line : (number : ℕ) (lead got text : ByteList) → got ≡ lead → lead ≡ board_lead number → got ++ text ≡ numbered number text
@@ -35,6 +35,11 @@ count_append s (y ∷ ys) x = (let ih : how_many_stand s (ys ++ x ∷ []) ≡ ho
 
 pub count_more : (s : Standing) (all : List Player) (i : ℕ) (x : Player) → i < length all → x ≡ get_or all i x → how_many_stand s (take (i + 1) all) ≡ how_many_stand s (take i all) + (if stands_same x.standing s then 1 else 0)
 count_more s all i x l e = ap (how_many_stand s) (take_more all i x l) ∙ count_append s (take i all) (get_or all i x) ∙ ap (λ (p : Player). how_many_stand s (take i all) + (if stands_same p.standing s then 1 else 0)) (sym e)
+
+-- the lines of players, from this number on
+abbrev pub ends_of : ByteList → ℕ → List Player → ByteList
+ends_of text b [] = []
+ends_of text b (p ∷ ps) = end_line_of p.standing b text ++ ends_of text (suc b) ps
 
 ends_append : (text : ByteList) (b n : ℕ) (xs ys : List Player) → length xs + b ≡ n → ends_of text b (xs ++ ys) ≡ ends_of text b xs ++ ends_of text n ys
 ends_append text b n [] ys e = (let same : b ≡ n = omega (arith, e) in ap (λ (i : ℕ). ends_of text i ys) same)

@@ -7,9 +7,9 @@ use Rattle.board_world.specs.Board.{Board}
 use Rattle.board_world.specs.Before.{IsRisingFrom}
 use Rattle.event_script.specs.World.{world_entries}
 use Rattle.tool_io.specs.Putting.{Took}
-use Rattle.class_world.specs.Hearing.{sent_at, heard_of, with_heard, raised_at, heard_events, heard_behind}
+use Rattle.class_world.specs.Hearing.{sent_at, heard_of, with_heard, raised_at}
 use Rattle.class_world.specs.Lines.{moment_lines, lines_before}
-use Rattle.class_world.proofs.Laws.{heard_on, rising_heard}
+use Rattle.class_world.proofs.Laws.{heard_events, heard_behind, heard_on, rising_heard}
 use Rattle.class_radio.specs.declared.player.Player.{Player}
 use Rattle.class_radio.specs.declared.player.Standing.{Standing}
 use Rattle.class_radio.specs.declared.player.Standing.TheVariants.{Plays, Panicked, Faulted}

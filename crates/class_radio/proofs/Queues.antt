@@ -4,7 +4,8 @@ use Rattle.std.proofs.lemmas.Bool.Decides.{nat_tests}
 use Rattle.board_world.specs.declared.events.Event.{Event}
 use Rattle.board_world.specs.Observations.{Observation}
 use Rattle.message_bus.specs.BusState.{queued}
-use Rattle.class_world.specs.Hearing.{sent_at, heard_events, heard_behind}
+use Rattle.class_world.specs.Hearing.{sent_at}
+use Rattle.class_world.proofs.Laws.{heard_events, heard_behind}
 use Rattle.class_steps.specs.Outlook.{next_with}
 use Rattle.board_run.specs.Going.{queued_all}
 use Rattle.class_radio.specs.Playing.{heard_event}

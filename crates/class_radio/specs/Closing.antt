@@ -38,11 +38,6 @@ abbrev pub end_line_of : Standing → (number : ℕ) → ByteList → ByteList
 end_line_of Plays number text = numbered number text
 end_line_of _ number text = []
 
--- the lines of players, from this number on
-abbrev pub ends_of : ByteList → ℕ → List Player → ByteList
-ends_of text b [] = []
-ends_of text b (p ∷ ps) = end_line_of p.standing b text ++ ends_of text (suc b) ps
-
 -- two of these are the same
 abbrev pub stands_same : Standing → Standing → Bool
 stands_same Plays Plays = true

@@ -8,10 +8,10 @@ use Rattle.board_world.specs.Transcript.{closing_line}
 use Rattle.board_world.specs.Board.{Board, Entry, over}
 use Rattle.board_world.specs.Simulation.{Paired}
 use Rattle.board_world.specs.Before.{IsRisingFrom}
-use Rattle.class_world.specs.Hearing.{before, heard_of, heard_behind, with_heard, raised_at}
+use Rattle.class_world.specs.Hearing.{before, heard_of, with_heard, raised_at}
 use Rattle.class_world.specs.Classes.{Member, Class, Played, world_of, world_before, seen_by, Passes, Hear, AreInOrder, IsRunTo}
 use Rattle.class_world.specs.Lines.{numbered, seen_at, lines_at, moment_lines, lines_before, class_end, closing_lines, whole_text, cut_text, WroteSame}
-use Rattle.class_world.proofs.Laws.{rising_heard, heard_on, heard_of_before, lines_same, all_ended}
+use Rattle.class_world.proofs.Laws.{heard_behind, rising_heard, heard_on, heard_of_before, lines_same, all_ended}
 use Rattle.class_steps.specs.Outlook.{Outlook, IsSeenAs, looks}
 use Rattle.class_steps.specs.Texts.{Reached, boards_now, IsTextOf}
 use Rattle.class_steps.proofs.Cutting.{boards_append, boards_length, cut_as, reached, reached_sooner, runs_to, moment_of_all}

@@ -1,13 +1,25 @@
 -- What is heard at the next moment stands behind what was heard before it.
-use Rattle.std.proofs.Common.{◌≡◌, ℕ, suc, ◌≤◌, ◌<◌, Bool, true, false, not, ◌&&◌, if◌then◌else◌, nat_le, nat_lt, ◌==◌, List, [], ◌∷◌, ◌++◌, map, refl, ap, sym, ◌∙◌, subst, arith}
+use Rattle.std.proofs.Common.{◌≡◌, ℕ, suc, ◌≤◌, ◌<◌, ℤ, pos, Bool, true, false, not, ◌&&◌, if◌then◌else◌, nat_le, nat_lt, ◌==◌, List, [], ◌∷◌, ◌++◌, map, refl, ap, sym, ◌∙◌, subst, arith}
 use Rattle.std.proofs.lemmas.Bool.Decides.{nat_tests}
 use Rattle.board_world.specs.declared.events.Event.{Event}
 use Rattle.board_world.specs.Observations.{Observation, Show, Serial, Pin, Radio}
 use Rattle.board_world.specs.Board.{Entry, Raise}
-use Rattle.class_world.specs.Hearing.{before, heard_at, heard, heard_of, inserted, with_heard, raised_at, sent_at, heard_events, heard_behind}
+use Rattle.class_world.specs.Hearing.{before, heard_at, heard, heard_of, inserted, with_heard, raised_at, sent_at, radio_source}
 use Rattle.class_world.proofs.Moments.{Each}
 use Rattle.class_world.proofs.Scripts.{early, late, late_append, heard_of_early, heard_of_before}
 use Rattle.class_world.proofs.Kept.{each_early}
+
+-- the numbers that were sent, as the events that they are for who hears them
+abbrev pub heard_events : List ℤ → List Event
+heard_events [] = []
+heard_events (number ∷ numbers) = record { source = pos radio_source; value = number } ∷ heard_events numbers
+
+-- what board j hears at the moment behind t of all others, whose numbers are from i on
+abbrev pub heard_behind : (lost : ℕ → ℕ → ℕ → Bool) → (t until j i : ℕ) → List (List Observation) → List Event
+heard_behind lost t until j i [] = []
+heard_behind lost t until j i (os ∷ rest) =
+    (if i == j then [] else (if nat_lt t until && not (lost t i j) then heard_events (sent_at t os) else []))
+    ++ heard_behind lost t until j (suc i) rest
 
 -- entries of different moments are inserted in any order
 placed_apart : (x e : Entry) (own : List Entry) → x.at < e.at → inserted x (inserted e own) ≡ inserted e (inserted x own)

@@ -5,7 +5,7 @@ pub use Rattle.class_world.proofs.Arriving.{kept_arrives}
 pub use Rattle.class_world.proofs.Giving.{rising_kept, kept_before, given_early, given_still}
 pub use Rattle.class_world.proofs.Onward.{given_so_far, kept_enough}
 -- what is heard, moment by moment
-pub use Rattle.class_world.proofs.Heard.{heard_on, heard_still}
+pub use Rattle.class_world.proofs.Heard.{heard_events, heard_behind, heard_on, heard_still}
 pub use Rattle.class_world.proofs.Scripts.{rising_heard, heard_of_before}
 -- runs one behind the other, one that waits for a later moment, and one that ends by the clock
 pub use Rattle.class_world.proofs.Kept.{before_sum, rests, waits_on, settled_later}

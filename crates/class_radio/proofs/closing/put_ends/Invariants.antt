@@ -1,7 +1,8 @@
 use Rattle.std.proofs.Common.{take, Ok}
 use Rattle.tool_io.specs.declared.sink.PutFailed.{PutFailed}
 use Rattle.tool_io.specs.Putting.{Puts}
-use Rattle.class_radio.specs.Closing.{AreLed, ends_of, last_line_of}
+use Rattle.class_radio.specs.Closing.{AreLed, last_line_of}
+use Rattle.class_radio.proofs.Lining.{ends_of}
 use Rattle.class_radio.proofs.closing.put_ends.Given as goal
 
 abbrev pub invariant-loop-player : goal.invariant-loop-player
