@@ -16,9 +16,8 @@ use Rattle.fiber_runtime.specs.State.{State}
 use Rattle.fiber_runtime.specs.Moves.{Resumed, Reinstated, started, reinstated}
 use Rattle.fork_on_block.specs.Handlers.{base_for, invoked as invoked_state}
 use Rattle.board_run.specs.declared.engine.Engine.{Engine}
-use Rattle.board_run.specs.Places.{PendingDispatch, ArePlaces, IsSpent, Takes}
-use Rattle.board_run.specs.Blocking.{copied_behind, IsFromRecord, IsCopiedIn}
-use Rattle.board_run.specs.Shown.{handler_turning}
+use Rattle.board_run.specs.Shown.{PendingDispatch, ArePlaces, IsSpent, Takes, handler_turning}
+use Rattle.board_run.specs.Serving.{copied_behind, IsFromRecord, IsCopiedIn}
 use Rattle.board_run.specs.Represents.{BoardState, Represents, state_of}
 use Rattle.board_run.specs.Run.{Comes}
 use Rattle.board_run.proofs.Turns.{resumed, reinstates, invoked, next_stands}

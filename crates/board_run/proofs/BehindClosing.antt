@@ -16,7 +16,7 @@ use Rattle.board_run.specs.declared.moments.Gone.TheVariants.{Ended}
 use Rattle.board_run.specs.Outside.{OverSink}
 use Rattle.board_run.specs.Ran.{answer_of, told}
 use Rattle.board_run.specs.Advancing.{led_lines, first_sent}
-use Rattle.board_run.specs.Gone.{HasGone, IsPassed, EndsBy, Went}
+use Rattle.board_run.specs.Going.{HasGone, IsPassed, EndsBy, Went}
 use Rattle.board_run.specs.Represents.{end_of}
 use Rattle.board_run.proofs.LedLines.{into_part}
 use Rattle.board_ports.specs.Account.{Account}

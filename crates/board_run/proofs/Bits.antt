@@ -2,7 +2,7 @@
 use Rattle.std.proofs.Common.{◌≡◌, ℕ, zero, suc, ◌+◌, ◌-◌, ◌/◌, ◌%◌, ◌<◌, ◌≤◌, ◌==◌, true, false, List, [], ◌∷◌, refl, sym, ap, ◌∙◌, arith}
 use Rattle.std.proofs.lemmas.Bool.Decides.{nat_tests}
 use Rattle.board_world.specs.declared.events.Event.{Event}
-use Rattle.board_run.specs.Places.{PendingDispatch, Takes, left_of}
+use Rattle.board_run.specs.Shown.{PendingDispatch, Takes, left_of}
 use Rattle.message_bus.specs.Numbers.{numbers}
 
 one_more : (n : ℕ) → n < 32 → 32 - n ≡ suc (32 - (n + 1))

@@ -13,7 +13,7 @@ use Rattle.fiber_runtime.specs.State.{State}
 use Rattle.fiber_runtime.specs.Moves.{Woken}
 use Rattle.board_run.specs.declared.end.Stop.{Stop}
 use Rattle.board_run.specs.declared.engine.Engine.{Engine}
-use Rattle.board_run.specs.Places.{PendingDispatch, ArePlaces, place_for}
+use Rattle.board_run.specs.Shown.{PendingDispatch, ArePlaces, place_for}
 use Rattle.board_run.specs.Represents.{Represents, IsEmpty, moves_left, state_of, end_of}
 use Rattle.board_outside.specs.Moves.{HasMet}
 use Rattle.board_run.specs.Run.{Comes}

@@ -26,7 +26,7 @@ use Rattle.fiber_runtime.specs.Moves.{Ended, Woken, restarted, suspended}
 use Rattle.board_run.specs.declared.engine.Engine.{Engine}
 use Rattle.board_outside.specs.declared.output.Output.TheVariants.{Nothing}
 use Rattle.board_run.specs.declared.engine.Served.TheVariants.{Goes}
-use Rattle.board_run.specs.Places.{PendingDispatch, ArePlaces, place_for}
+use Rattle.board_run.specs.Shown.{PendingDispatch, ArePlaces, place_for}
 use Rattle.board_run.specs.Represents.{Represents, IsShown, behind, state_of}
 use Rattle.board_outside.specs.Moves.{Meets}
 use Rattle.board_run.specs.Serving.{StopsAt, IsServed}

@@ -23,8 +23,7 @@ use Rattle.fiber_runtime.specs.Sound.{IsSound, IsNested}
 use Rattle.fiber_runtime.specs.Moves.{Ended, machine_started}
 use Rattle.fiber_queues.proofs.Laws.{how_often-listed}
 use Rattle.fiber_runtime.proofs.Laws.{sound_ended, sound_keyless, sound_named, own_key_once, no_words}
-use Rattle.board_run.specs.Places.{ArePlaces}
-use Rattle.board_run.specs.Shown.{acting, standing}
+use Rattle.board_run.specs.Shown.{ArePlaces, acting, standing}
 use Rattle.board_run.specs.Represents.{BoardState, IsRecorded, Represents, behind}
 use Rattle.board_run.proofs.Standing.{standing_heard, keys_same, keyed_same}
 use Rattle.board_run.proofs.FiberGoesOn.{current, IsPlain, first_ready, below, others_kept}

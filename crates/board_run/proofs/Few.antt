@@ -13,9 +13,8 @@ use Rattle.message_bus.specs.Agreement.{hearings, living}
 use Rattle.message_bus.proofs.Laws.{many-append}
 use Rattle.fiber_runtime.specs.declared.turning.Turning.{Turning}
 use Rattle.fiber_runtime.specs.declared.turning.Raiser.{Raiser}
-use Rattle.board_run.specs.Places.{PendingDispatch, ArePlaces}
+use Rattle.board_run.specs.Shown.{PendingDispatch, ArePlaces, running_of, of_raiser, of_key, begun_as, unbegun, standing}
 use Rattle.message_bus.specs.Numbers.{IsRising}
-use Rattle.board_run.specs.Shown.{running_of, of_raiser, of_key, begun_as, unbegun, standing}
 use Rattle.board_run.specs.Represents.{BoardState, Represents}
 
 most_all : {X : Type 0} (test : X → Bool) (xs : List X) → how_many test xs ≤ length xs

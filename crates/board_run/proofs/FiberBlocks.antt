@@ -18,9 +18,8 @@ use Rattle.board_run.specs.declared.engine.Engine.{Engine}
 use Rattle.board_outside.specs.declared.output.Output.TheVariants.{Nothing}
 use Rattle.board_run.specs.declared.engine.Served.TheVariants.{Goes}
 use Rattle.board_run.specs.Represents.{BoardState, Represents, behind, state_of}
-use Rattle.board_run.specs.Serving.{turned, IsServed}
+use Rattle.board_run.specs.Serving.{turned, IsServed, blocks_for, Rests, copied_behind}
 use Rattle.thumb_switch.specs.Switching.{depth as fiber_depth}
-use Rattle.board_run.specs.Blocking.{blocks_for, Rests, copied_behind}
 use Rattle.board_run.proofs.FiberGoesOn.{current, asks_to, blocked, forked}
 use Rattle.board_run.proofs.Acting.{Leaves}
 use Rattle.board_outside.proofs.Laws.{meets_nothing}

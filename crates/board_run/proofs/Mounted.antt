@@ -20,7 +20,7 @@ use Rattle.fiber_runtime.specs.Words.{ReachesBase}
 use Rattle.fiber_runtime.specs.Moves.{HasMain, fresh}
 use Rattle.fiber_queues.proofs.Laws.{how_often-same, how_often-other}
 use Rattle.board_run.specs.declared.engine.Engine.{Engine}
-use Rattle.board_run.specs.Places.{PendingDispatch, at_first}
+use Rattle.board_run.specs.Shown.{PendingDispatch, at_first}
 use Rattle.board_run.specs.Represents.{BoardState, Represents, state_of}
 use Rattle.board_run.specs.Ran.{IsMounted}
 use Rattle.board_run.proofs.Standing.{key_is}

@@ -10,7 +10,7 @@ use Rattle.board_world.specs.Waiting.{least, how_many, none, held_by, handler_of
 use Rattle.board_world.specs.Activities.{Activity, World, handlers, woken}
 use Rattle.board_world.specs.World.{moved, clock_moves, idle_while, idle_bound, idled, lacks_seat, ends_with, ends, acted, stepped, tick}
 use Rattle.board_world.proofs.Laws.{if_keeps}
-use Rattle.board_run.specs.Others.{standing_in}
+use Rattle.board_run.specs.Shown.{standing_in}
 
 -- how many of these activities there are whose own state passes a test
 abbrev many : {A : Type 0} → (A → Bool) → List (Activity A) → ℕ

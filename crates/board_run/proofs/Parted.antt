@@ -22,7 +22,7 @@ use Rattle.board_run.specs.Represents.{Represents, state_of, plain_of, end_of}
 use Rattle.board_run.specs.Arriving.{unplugs_of, acted_on, Applied}
 use Rattle.board_run.specs.Advancing.{IsWhole}
 use Rattle.board_run.specs.Outside.{PortsMeet}
-use Rattle.board_run.specs.Parting.{MayArrive, Arrives}
+use Rattle.board_run.specs.Ran.{MayArrive, Arrives}
 use Rattle.board_run.proofs.FiberGoesOn.{IsPlain}
 use Rattle.board_run.proofs.OutsideActs.{arrived}
 

@@ -29,9 +29,8 @@ use Rattle.fiber_runtime.specs.State.{State}
 use Rattle.fiber_queues.specs.Keys.{how_often}
 use Rattle.fiber_runtime.specs.Sound.{IsSound, IsNested, IsStanding, once}
 use Rattle.fiber_runtime.specs.Moves.{Woken, suspended}
-use Rattle.board_run.specs.Places.{PendingDispatch, ArePlaces, IsSpent, place_for}
+use Rattle.board_run.specs.Shown.{PendingDispatch, ArePlaces, IsSpent, place_for, acting, running_of, of_raiser, of_key, begun_as, unbegun, standing}
 use Rattle.message_bus.specs.Numbers.{IsRising, beginning}
-use Rattle.board_run.specs.Shown.{acting, running_of, of_raiser, of_key, begun_as, unbegun, standing}
 use Rattle.board_run.specs.Represents.{BoardState, IsRecorded, Represents, behind}
 use Rattle.board_run.proofs.Standing.{standing_heard, keys_same, keyed_same, keys_woken}
 use Rattle.board_run.proofs.FiberGoesOn.{current, IsPlain, IsOnward, first_ready, below, behind_same}

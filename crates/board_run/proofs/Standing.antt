@@ -12,9 +12,8 @@ use Rattle.fiber_runtime.specs.Sound.{IsNested}
 use Rattle.fiber_queues.specs.Keys.{how_often}
 use Rattle.bank_model.proofs.Laws.{same_words, same_above}
 use Rattle.fiber_queues.proofs.Laws.{how_often-append, how_often-same}
-use Rattle.board_run.specs.Places.{PendingDispatch, ArePlaces}
+use Rattle.board_run.specs.Shown.{PendingDispatch, ArePlaces, acting, of_raiser, of_kept, of_key, begun_as, standing}
 use Rattle.message_bus.specs.Numbers.{IsRising}
-use Rattle.board_run.specs.Shown.{acting, of_raiser, of_kept, of_key, begun_as, standing}
 
 -- the same raiser, where its words are
 pub same_raiser : (at : ℕ) (old new : List ℕ) (r : Raiser) → SameFrom at old new → at ≤ r.registers.sp → of_raiser new r ≡ of_raiser old r

@@ -36,8 +36,7 @@ use Rattle.board_run.specs.Represents.{BoardState, Represents, IsEmpty, entries_
 use Rattle.board_run.specs.Run.{Reaches, Comes}
 use Rattle.board_run.specs.Outside.{OverSink}
 use Rattle.board_run.specs.Advancing.{IsWhole, led_lines, Fails, first_sent, IsBusy, HasProceeded, IsStayed, of_moment}
-use Rattle.board_run.specs.Going.{next_moment, IsDueAt, IsResting, CameTo, Shows, LeadsTo, Sees}
-use Rattle.board_run.specs.Gone.{HasGone, IsIdle, IsPassed, IsCutShort}
+use Rattle.board_run.specs.Going.{next_moment, IsDueAt, IsResting, CameTo, Shows, LeadsTo, Sees, HasGone, IsIdle, IsPassed, IsCutShort}
 use Rattle.board_run.proofs.Executing.{ports_then}
 use Rattle.board_run.proofs.Further.{Makes, MakesTo, through_then, through_none}
 use Rattle.board_run.proofs.Raises.{nobody_ready}

@@ -28,8 +28,7 @@ use Rattle.board_run.specs.Represents.{BoardState, Represents, IsShown, behind, 
 use Rattle.board_run.specs.Run.{Comes}
 use Rattle.board_run.specs.Outside.{OverSink, PortsMeet}
 use Rattle.board_run.specs.Advancing.{IsWhole, led_lines, Fails, first_sent, IsBusy, HasProceeded, IsStayed, of_moment}
-use Rattle.board_run.specs.Going.{IsDueAt, IsResting, Shows, LeadsTo, Sees}
-use Rattle.board_run.specs.Gone.{MayGo, HasGone, IsIdle, GoesOnOrIdle, IsPassed, IsCutShort}
+use Rattle.board_run.specs.Going.{IsDueAt, IsResting, Shows, LeadsTo, Sees, MayGo, HasGone, IsIdle, GoesOnOrIdle, IsPassed, IsCutShort}
 use Rattle.board_run.specs.Ran.{IsMounted}
 use Rattle.board_run.proofs.Executing.{ports_then, into_then, led_lines-append}
 use Rattle.board_run.proofs.FiberGoesOn.{first_ready}

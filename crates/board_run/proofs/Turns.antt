@@ -18,9 +18,8 @@ use Rattle.fiber_runtime.specs.State.{State}
 use Rattle.fiber_runtime.specs.Sound.{IsSound, IsNested, IsStanding}
 use Rattle.fiber_runtime.specs.Moves.{Resumed, Holds, started, machine_started, reinstated, turning_of}
 use Rattle.fiber_runtime.proofs.Laws.{sound_resumed, sound_started, sound_reinstated, no_words, inside_fits}
-use Rattle.board_run.specs.Places.{PendingDispatch, ArePlaces, IsSpent}
+use Rattle.board_run.specs.Shown.{PendingDispatch, ArePlaces, IsSpent, acting, of_key, begun_as, standing}
 use Rattle.message_bus.specs.Numbers.{IsRising}
-use Rattle.board_run.specs.Shown.{acting, of_key, begun_as, standing}
 use Rattle.fork_on_block.specs.Handlers.{base_for}
 use Rattle.board_run.specs.Represents.{BoardState, IsRecorded, Represents}
 use Rattle.board_run.proofs.Standing.{key_is, rising_from}

@@ -1,14 +1,9 @@
-pub mod Places
 pub mod Shown
 pub mod Represents
 pub mod Run
 pub mod Serving
-pub mod Blocking
 pub mod Outside
 pub mod Arriving
 pub mod Advancing
 pub mod Ran
-pub mod Others
-pub mod Parting
 pub mod Going
-pub mod Gone

@@ -1,10 +1,10 @@
--- The run of a mounted image.
-use Rattle.std.specs.Prelude.{◌≡◌, ℕ, ◌<◌, ◌≤◌, ◌⊎◌, List, [], ◌++◌, Option, Some, None, Result, Ok, Err, true, false}
+-- The run of a mounted image, a part of it, and an act between two parts.
+use Rattle.std.specs.Prelude.{◌≡◌, ℕ, ◌<◌, ◌≤◌, ◌⊎◌, List, [], ◌++◌, Option, Some, None, Result, Ok, Err, true, false, IsSome}
 use Rattle.std.specs.Option.{option_map}
 use Rattle.sts_base.specs.Faults.{Rose}
 use Rattle.board_world.specs.Observations.{End as RunEnd, Quietly, By_script, Panicked, Faulted}
 use Rattle.board_world.specs.Transcript.{closing_line}
-use Rattle.board_world.specs.Board.{Board, over, transcript_of}
+use Rattle.board_world.specs.Board.{Board, over, transcript_of, Act, Unplug}
 use Rattle.board_world.specs.Activities.{World}
 use Rattle.bank_model.specs.Fibers.{Fiber, Shared}
 use Rattle.bank_model.specs.BoardMachine.{bank_start, bank_run}
@@ -16,15 +16,16 @@ use Rattle.event_script.specs.declared.script.Script.{Script as EventScript}
 use Rattle.board_outside.specs.Moves.{Move, HasMet}
 use Rattle.board_outside.specs.Ports.{DevicesAfter}
 use Rattle.board_outside.specs.Cuts.{Stopped}
+use Rattle.board_ports.specs.Account.{Account}
+use Rattle.board_world.specs.Runs.{acts}
 use Rattle.board_run.specs.declared.engine.Engine.{Engine}
 use Rattle.board_run.specs.declared.end.End.{End}
 use Rattle.board_run.specs.declared.end.End.TheVariants.{Quiet, Script, Panic, Budget, Fault, SinkFault}
 use Rattle.board_run.specs.declared.end.Stop.{Stop}
 use Rattle.board_run.specs.declared.end.Stop.TheVariants.{Quiet as StopQuiet, Script as StopScript, Panic as StopPanic, Fault as StopFault}
-use Rattle.board_run.specs.Represents.{Represents, state_of, end_of}
+use Rattle.board_run.specs.Represents.{Represents, state_of, end_of, BoardState}
 use Rattle.board_run.specs.Outside.{Outside, OverSink, around}
-use Rattle.board_run.specs.Advancing.{IsWhole}
-use Rattle.board_ports.specs.Account.{Account}
+use Rattle.board_run.specs.Advancing.{IsWhole, HasExecuted, Fails, of_run}
 
 -- the bank machine's world after so many instructions of an image, on a script, with these free words
 abbrev pub world_after : List ℕ → EventScript → List ℕ → ℕ → World Fiber Shared
@@ -102,3 +103,31 @@ abbrev pub Ran : {B : Type 0} → (B → Account) → List ℕ → (List ℕ →
 Ran account image course budget old new SinkFault =
     IsCut account course budget old (around new) × Rose old.faults new.faults
 Ran account image course budget old new answer = HasRun account image course budget old new (end_told answer)
+
+-- The run is over after so many instructions of the part, and its closing line was put.
+pub record Closed {B : Type 0} (account : B → Account) (most : ℕ) (old new : OverSink B) (answer : End) : Type 0 where
+  pub count : ℕ
+  pub mid : Option (List ℕ)  -- what the sink had taken before the closing line, and how often it had failed
+  pub fault : ℕ
+  pub executed : HasExecuted account count most old (record new { taken = mid; faults = fault })
+  pub ended : IsSome new.board.engine.end
+  pub later : old.faults ≤ fault
+  pub finishes : Finishes (record new { taken = mid; faults = fault }) new answer
+
+-- What a part answers: nothing where all its instructions were executed and the run isn't over; an end where the run is over; or the sink
+-- failed in the line of an observation.
+abbrev pub Parted : {B : Type 0} → (B → Account) → ℕ → OverSink B → OverSink B → Option End → Type 0
+Parted account most old new None = HasExecuted account most most old new × (new.board.engine.end ≡ None)
+Parted account most old new (Some answer) =
+    Closed account most old new answer
+    ⊎ (Fails account of_run most old new × (answer ≡ SinkFault) × Rose old.faults new.faults)
+
+-- an act that arrives is no unplug
+abbrev pub MayArrive : Act → Type 0
+MayArrive (Unplug port) = ⊥
+MayArrive _ = Unit {0}
+
+-- The board shows what an act makes of each world that it showed.
+abbrev pub Arrives : Act → BoardState → BoardState → Type 0
+Arrives act old new =
+    (image : List ℕ) (w : World Fiber Shared) → Represents image old w → Represents image new (acts act w)

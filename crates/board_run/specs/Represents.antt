@@ -11,8 +11,7 @@ use Rattle.fiber_runtime.specs.declared.turning.Turning.{Turning}
 use Rattle.fiber_runtime.specs.declared.turning.Raiser.{Raiser}
 use Rattle.fiber_runtime.specs.State.{State}
 use Rattle.fiber_runtime.specs.Sound.{IsSound, IsStanding}
-use Rattle.board_run.specs.Places.{PendingDispatch, ArePlaces, IsSpent}
-use Rattle.board_run.specs.Shown.{running_of, of_key, standing}
+use Rattle.board_run.specs.Shown.{PendingDispatch, ArePlaces, IsSpent, running_of, of_key, standing}
 use Rattle.std.specs.Option.{option_map}
 use Rattle.std.specs.List.{AllByRecursion}
 use Rattle.board_world.specs.Observations.{End, Quietly, By_script, Panicked, Faulted}

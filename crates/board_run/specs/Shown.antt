@@ -1,18 +1,53 @@
--- The activities that a board shows.
-use Rattle.std.specs.Prelude.{ℕ, Bool, true, false, List, [], ◌∷◌, ◌++◌, map, Option, Some, None, is_some}
+-- What a board shows: dispatch places, which are an event and the listeners whose handlers haven't begun, and activities.
+use Rattle.std.specs.Prelude.{◌≡◌, ℕ, ◌-◌, pos, List, [], ◌∷◌, Bool, true, false, ◌++◌, map, Option, Some, None, is_some, ◌+◌}
+use Rattle.board_world.specs.declared.events.Event.{Event}
+use Rattle.message_bus.specs.ListenerState.{ListenerState}
+use Rattle.message_bus.specs.Numbers.{numbers, beginning, IsRising}
+use Rattle.fiber_runtime.specs.declared.turning.Raiser.{Raiser}
 use Rattle.slab.specs.Slab.{Slab}
 use Rattle.thumb_code.specs.Machine.{State as Machine, base_of}
-use Rattle.board_world.specs.declared.events.Event.{Event}
-use Rattle.board_world.specs.Waiting.{Hearing, handler_of}
-use Rattle.board_world.specs.Activities.{Activity}
+use Rattle.board_world.specs.Waiting.{Hearing, handler_of, how_many}
+use Rattle.board_world.specs.Activities.{Activity, World}
 use Rattle.bank_model.specs.Fibers.{Fiber, begins_on}
 use Rattle.bank_model.specs.Standing.{fiber_on}
 use Rattle.message_bus.specs.Agreement.{handler_activity}
 use Rattle.fiber_pool.specs.Kept.{Kept, kept_at}
 use Rattle.fiber_runtime.specs.declared.turning.Turning.{Turning}
-use Rattle.fiber_runtime.specs.declared.turning.Raiser.{Raiser}
 use Rattle.fiber_runtime.specs.Banks.{fiber_raising, fiber_kept}
-use Rattle.board_run.specs.Places.{PendingDispatch}
+
+pub record PendingDispatch : Type 0 where
+  pub event : Event
+  pub left : List ℕ  -- the numbers of these listeners, ascending
+
+-- One place for each raiser, the innermost first, and one behind them; so many listeners stand.
+abbrev pub ArePlaces : ℕ → List Raiser → List PendingDispatch → Type 0
+ArePlaces n [] (p ∷ []) = IsRising 0 p.left n
+ArePlaces n (r ∷ rs) (p ∷ ps) = IsRising 0 p.left n × ArePlaces n rs ps
+ArePlaces n _ _ = ⊥
+
+-- the places as a run begins: one, at which no handler is left
+abbrev pub at_first : List PendingDispatch
+at_first = record { event = record { source = pos 0; value = pos 0 }; left = [] } ∷ []
+
+-- the dispatch place of an event
+abbrev pub place_for : Event → List ListenerState → PendingDispatch
+place_for e ls = record { event = e; left = beginning e 0 ls }
+
+-- the numbers that are left of a set of 32 bits, of which those below a number are gone
+abbrev pub left_of : ℕ → ℕ → List ℕ
+left_of next bits = numbers (32 - next) next bits
+
+-- The first handler of the innermost place is taken.
+pub record Takes (event : Event) (at : ℕ) (old new : List PendingDispatch) : Type 0 where
+  pub rest : List ℕ
+  pub outer : List PendingDispatch
+  pub was : old ≡ record { event = event; left = at ∷ rest } ∷ outer
+  pub now : new ≡ record { event = event; left = rest } ∷ outer
+
+-- No handler is left at the innermost place.
+abbrev pub IsSpent : List PendingDispatch → Type 0
+IsSpent [] = ⊥
+IsSpent (p ∷ ps) = p.left ≡ []
 
 -- Who runs or is suspended: it has a seat where it has a record.
 abbrev pub acting : Fiber → Turning → Bool → Activity Fiber
@@ -51,3 +86,9 @@ standing image hs stack (r ∷ rs) (p ∷ ps) =
 -- what is kept of a handler that begins
 abbrev pub handler_turning : Event → ℕ → Turning
 handler_turning e i = record { key = None; value = e.value; listener = Some i }
+
+-- how many activities a world has whose own state passes a test, and whichever of its ready ones are meant
+abbrev pub standing_in : {A S : Type 0} → (A → Bool) → List (Activity A) → World A S → ℕ
+standing_in test ready w =
+    how_many (λ a. test a.self) ready
+    + how_many (λ x. test x.1.self) w.sleepers + how_many (λ x. test x.1.self) w.waiters

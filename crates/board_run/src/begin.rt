@@ -8,7 +8,7 @@ ghost use Rattle.fork_on_block.specs.Handlers.{base_for};
 ghost use Rattle.board_run.specs.Shown.{handler_turning};
 ghost use Rattle.board_run.specs.Represents.{IsShown, IsEmpty, state_of};
 ghost use Rattle.board_run.specs.Run.{Comes};
-ghost use Rattle.board_run.specs.Blocking.{IsCopiedIn};
+ghost use Rattle.board_run.specs.Serving.{IsCopiedIn};
 
 use crate::engine::Engine;
 use board_world::Event;

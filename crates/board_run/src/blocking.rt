@@ -6,10 +6,9 @@ ghost use Rattle.board_services.specs.declared.numbers.TheConstants.{SPAWN};
 ghost use Rattle.bank_model.specs.AllServices.{service, asked_listener, word_argument, with_code};
 ghost use Rattle.bank_model.specs.Standing.{IsInside, words_in};
 ghost use Rattle.board_world.specs.Kinds.{Listens};
-ghost use Rattle.board_run.specs.Serving.{IsServed, Keeps};
+ghost use Rattle.board_run.specs.Serving.{IsServed, Keeps, blocks_for, Rests, copied_behind, IsCopiedOut};
 ghost use Rattle.fiber_runtime.specs.declared.turning.Turning.{Turning};
 ghost use Rattle.thumb_switch.specs.Switching.{depth};
-ghost use Rattle.board_run.specs.Blocking.{blocks_for, Rests, copied_behind, IsCopiedOut};
 
 use crate::arguments::{number, word};
 use crate::end::Stop;

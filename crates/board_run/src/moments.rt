@@ -14,8 +14,7 @@ ghost use Rattle.board_run.specs.Represents.{IsShown, IsEmpty, end_of, state_of}
 ghost use Rattle.board_run.specs.Run.{Comes};
 ghost use Rattle.board_run.specs.Outside.{over_sink, PortsMeet};
 ghost use Rattle.board_run.specs.Advancing.{IsWhole, led_lines, Fails, lead_before, first_sent, Proceeds, HasProceeded, Stands, IsStayed, of_moment};
-ghost use Rattle.board_run.specs.Going.{next_moment, IsDueAt, IsResting};
-ghost use Rattle.board_run.specs.Gone.{MayGo, HasGone, GoesOnOrIdle, IsPassed, IsCutShort, Went};
+ghost use Rattle.board_run.specs.Going.{next_moment, IsDueAt, IsResting, MayGo, HasGone, GoesOnOrIdle, IsPassed, IsCutShort, Went};
 ghost use Rattle.board_run.specs.Ran.{answer_of};
 
 use crate::board::{Board, tell};

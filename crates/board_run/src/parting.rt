@@ -4,7 +4,7 @@ ghost use Rattle.board_world.specs.Scripts.{IsSoundAct};
 ghost use Rattle.event_script.specs.World.{world_act};
 ghost use Rattle.board_run.specs.Advancing.{IsWhole, IsSettled};
 ghost use Rattle.board_run.specs.Outside.{PortsMeet, over_sink};
-ghost use Rattle.board_run.specs.Parting.{Parted, MayArrive, Arrives};
+ghost use Rattle.board_run.specs.Ran.{Parted, MayArrive, Arrives};
 ghost use Rattle.board_run.specs.Represents.{state_of};
 
 use crate::board::Board;

@@ -3,7 +3,7 @@ ghost use Rattle.std.specs.Prelude.{◌≡◌, ◌++◌, ◌<◌, ◌≤◌, ◌
 ghost use Rattle.std.specs.Option.{option_to_list};
 ghost use Rattle.message_bus.specs.Numbers.{numbers};
 ghost use Rattle.message_bus.specs.ListenerState.{heard};
-ghost use Rattle.board_run.specs.Places.{left_of, place_for};
+ghost use Rattle.board_run.specs.Shown.{left_of, place_for};
 
 use board_world::Event;
 use message_bus::Bus;
@@ -19,7 +19,7 @@ pub struct PendingDispatch {
 
 impl Model for PendingDispatch {
     ghost use Rattle.std.specs.Prelude.{◌≤◌};
-    ghost use Rattle.board_run.specs.Places.{PendingDispatch as PlaceState, left_of};
+    ghost use Rattle.board_run.specs.Shown.{PendingDispatch as PlaceState, left_of};
 
     ghost Value = { PlaceState };
 

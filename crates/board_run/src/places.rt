@@ -1,6 +1,6 @@
 // The dispatch places, the innermost first.
 ghost use Rattle.std.specs.Prelude.{◌≡◌, ◌∷◌, ◌<◌, ◌≤◌, [], length, IfSome, IfNone, IfOk, OnSome, vec_len, List, ℕ};
-ghost use Rattle.board_run.specs.Places.{PendingDispatch as PlaceState, Takes, IsSpent, at_first};
+ghost use Rattle.board_run.specs.Shown.{PendingDispatch as PlaceState, Takes, IsSpent, at_first};
 
 use crate::place::PendingDispatch;
 use board_world::Event;
@@ -18,7 +18,7 @@ pub struct Places {
 
 impl Model for Places {
     ghost use Rattle.std.specs.Prelude.{List, reverse, ◌∷◌, ◌≤◌, vec_len, vec_capacity};
-    ghost use Rattle.board_run.specs.Places.{PendingDispatch as PlaceState};
+    ghost use Rattle.board_run.specs.Shown.{PendingDispatch as PlaceState};
 
     ghost Value = { List PlaceState };
 

@@ -5,7 +5,7 @@ ghost use Rattle.board_world.specs.Activities.{Activity, World};
 ghost use Rattle.board_world.specs.World.{moved, idled, tick};
 ghost use Rattle.bank_model.specs.Fibers.{Fiber, Shared};
 ghost use Rattle.bank_model.specs.BoardMachine.{fibers};
-ghost use Rattle.board_run.specs.Others.{standing_in};
+ghost use Rattle.board_run.specs.Shown.{standing_in};
 
 /// Between two turns of a fiber its registers, its base and its bank stay, whatever others do: of the fibers that have no turn in an instruction, as
 /// many as passed any test of registers, base and bank still pass it behind that instruction and the idle moves that follow, and behind each of these.

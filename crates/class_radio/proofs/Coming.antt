@@ -32,9 +32,8 @@ use Rattle.board_run.specs.declared.engine.Engine.{Engine}
 use Rattle.board_run.specs.declared.end.Stop.{Stop}
 use Rattle.board_run.specs.Shown.{of_key}
 use Rattle.board_run.specs.Advancing.{IsWhole, IsBusy}
-use Rattle.board_run.specs.Going.{queued_all, next_moment, IsDueAt, Shows}
+use Rattle.board_run.specs.Going.{queued_all, next_moment, IsDueAt, Shows, MayGo}
 use Rattle.board_run.specs.Represents.{entries_left, state_of, end_of}
-use Rattle.board_run.specs.Gone.{MayGo}
 use Rattle.board_run.proofs.Laws.{mounted_busy, nobody_ready, due_rising}
 use Rattle.class_radio.specs.declared.player.Player.{Player}
 use Rattle.class_radio.specs.Playing.{Setup, member_of, run_given, standing_of, IsNumbered, outlook, IsInWait, HasPlayed, IsFresh, HasCome}

@@ -31,8 +31,7 @@ use Rattle.board_outside.proofs.Laws.{seen_of-append}
 use Rattle.board_run.specs.declared.board.Board.{Board}
 use Rattle.board_run.specs.declared.end.Stop.{Stop}
 use Rattle.board_run.specs.Advancing.{led_lines, IsBusy}
-use Rattle.board_run.specs.Going.{next_moment, LeadsTo, Sees}
-use Rattle.board_run.specs.Gone.{HasGone, IsIdle, IsCutShort, IsCutLast, Went}
+use Rattle.board_run.specs.Going.{next_moment, LeadsTo, Sees, HasGone, IsIdle, IsCutShort, IsCutLast, Went}
 use Rattle.board_run.specs.Represents.{state_of, end_of}
 use Rattle.board_run.proofs.Laws.{nobody_ready, first_ready, some_turning, next_shown}
 use Rattle.board_run.specs.declared.end.Stop.TheVariants.{Panic as StopPanic, Fault as StopFault}

@@ -14,7 +14,7 @@ use Rattle.board_outside.proofs.Laws.{seen_of-append, lines-append}
 use Rattle.board_run.specs.declared.engine.Engine.{Engine}
 use Rattle.board_run.specs.Outside.{OverSink, PortsMeet}
 use Rattle.board_run.specs.Advancing.{of_run, Advances, IsSettled}
-use Rattle.board_run.specs.Parting.{MayArrive, Arrives}
+use Rattle.board_run.specs.Ran.{MayArrive, Arrives}
 use Rattle.board_run.specs.Represents.{state_of, end_of}
 use Rattle.board_run.proofs.Laws.{settled_stays, ports_then, plain_lines}
 use Rattle.irq_arrival.specs.Along.{NoneBefore, IsStill, world_with}

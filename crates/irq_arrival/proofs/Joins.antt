@@ -15,7 +15,7 @@ use Rattle.board_run.specs.Represents.{BoardState, Represents}
 use Rattle.board_run.specs.Run.{Reaches}
 use Rattle.board_run.specs.Advancing.{of_run, ComesBy}
 use Rattle.irq_arrival.specs.Along.{world_with, NoneBefore, Along, IsStill}
-use Rattle.board_run.specs.Parting.{MayArrive, Arrives}
+use Rattle.board_run.specs.Ran.{MayArrive, Arrives}
 use Rattle.irq_arrival.proofs.Courses.{with_moved, with_before, with_now, with_here, with_over, onward_list}
 
 pub begins : (image : List ℕ) (until : ℕ) (script : List Entry) (arrivals : List Arrival) (b : BoardState) → Rises 0 arrivals

@@ -9,7 +9,7 @@ use Rattle.event_script.specs.declared.script.Act.TheVariants.{Down, Up, Raise, 
 use Rattle.arrival_file.specs.declared.arrival.Arrival.{Arrival}
 use Rattle.arrival_file.specs.Form.{may_arrive}
 use Rattle.arrival_file.specs.World.{world_arrivals}
-use Rattle.board_run.specs.Parting.{MayArrive}
+use Rattle.board_run.specs.Ran.{MayArrive}
 use Rattle.irq_arrival.specs.Along.{AllMay, NoneBefore}
 
 abbrev pub world_arrival : Arrival → WorldArrival

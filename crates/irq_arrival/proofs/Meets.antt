@@ -7,7 +7,7 @@ use Rattle.board_world.specs.Runs.{Arrival, acts, run}
 use Rattle.board_world.proofs.Laws.{run_by_list}
 use Rattle.board_outside.specs.Moves.{Move, HasMet}
 use Rattle.board_outside.proofs.Laws.{goes_on_meeting}
-use Rattle.board_run.specs.Parting.{MayArrive}
+use Rattle.board_run.specs.Ran.{MayArrive}
 use Rattle.irq_arrival.specs.Along.{AllMay}
 use Rattle.irq_arrival.proofs.Joins.{arrive_met}
 

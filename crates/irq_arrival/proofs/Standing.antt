@@ -16,8 +16,7 @@ use Rattle.board_run.specs.declared.end.End.{End}
 use Rattle.board_run.specs.declared.end.Stop.{Stop}
 use Rattle.board_run.specs.Outside.{OverSink, around, PortsMeet}
 use Rattle.board_run.specs.Advancing.{IsWhole, IsSettled}
-use Rattle.board_run.specs.Parting.{Parted, Arrives}
-use Rattle.board_run.specs.Ran.{IsMounted, answer_of, Ran}
+use Rattle.board_run.specs.Ran.{Parted, Arrives, IsMounted, answer_of, Ran}
 use Rattle.board_run.specs.Represents.{state_of, end_of}
 use Rattle.arrival_file.specs.declared.arrival.Arrival.{Arrival as FileArrival}
 use Rattle.arrival_file.specs.World.{world_arrivals}

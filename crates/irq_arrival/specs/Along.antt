@@ -8,7 +8,7 @@ use Rattle.bank_model.specs.Fibers.{Fiber, Shared}
 use Rattle.bank_model.specs.BoardMachine.{fibers, bank_start}
 use Rattle.board_outside.specs.Moves.{Move, HasMet}
 use Rattle.board_run.specs.Represents.{BoardState, Represents}
-use Rattle.board_run.specs.Parting.{MayArrive}
+use Rattle.board_run.specs.Ran.{MayArrive}
 
 -- the bank machine's world after so many instructions of an image, on a script and with these arrivals, with these free words
 abbrev pub world_with : List ℕ → ℕ → List Entry → List Arrival → List ℕ → ℕ → World Fiber Shared

@@ -8,8 +8,7 @@ ghost use Rattle.bank_model.specs.BoardMachine.{fibers, bank_start};
 ghost use Rattle.board_outside.specs.Moves.{Move, HasMet};
 ghost use Rattle.board_run.specs.Represents.{BoardState, Represents};
 ghost use Rattle.board_run.specs.Advancing.{of_run, ComesBy};
-ghost use Rattle.board_run.specs.Ran.{IsExecuted};
-ghost use Rattle.board_run.specs.Parting.{MayArrive, Arrives};
+ghost use Rattle.board_run.specs.Ran.{IsExecuted, MayArrive, Arrives};
 ghost use Rattle.irq_arrival.specs.Along.{world_with, NoneBefore, Along, IsStill};
 
 /// A run with arrivals begins where a board is mounted; it goes on by parts that nothing arrives in, and by acts between them; and where all

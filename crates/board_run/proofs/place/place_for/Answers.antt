@@ -1,7 +1,7 @@
 use Rattle.std.proofs.Common.{ap, ◌∙◌, List, ℕ, subst, ◌≤◌}
 use Rattle.message_bus.specs.Numbers.{numbers}
 use Rattle.message_bus.proofs.Laws.{numbers-bits}
-use Rattle.board_run.specs.Places.{PendingDispatch}
+use Rattle.board_run.specs.Shown.{PendingDispatch}
 use Rattle.board_run.proofs.place.place_for.Goals as goal
 
 place_with : goal.After-new → List ℕ → PendingDispatch

@@ -2,8 +2,7 @@ use Rattle.std.proofs.Common.{◌≡◌, ◌≤◌, ◌+◌, ◌-◌, ℕ, [], N
 use Rattle.board_world.specs.Limits.{end_limit}
 use Rattle.board_run.specs.declared.engine.Engine.{Engine}
 use Rattle.board_run.specs.Outside.{over_sink}
-use Rattle.board_run.specs.Going.{IsDueAt, IsResting}
-use Rattle.board_run.specs.Gone.{HasGone, IsPassed, IsCutShort}
+use Rattle.board_run.specs.Going.{IsDueAt, IsResting, HasGone, IsPassed, IsCutShort}
 use Rattle.board_run.proofs.Executing.{whole_idle, on_err}
 use Rattle.board_run.proofs.ClockToEvents.{then_ok, then_err}
 use Rattle.board_run.proofs.ThroughFirst.{may_rest, may_begin, first_gone, first_passed, first_cut, then_gone, then_passed, then_cut}

@@ -3,7 +3,7 @@ use Rattle.fiber_runtime.specs.State.{State}
 use Rattle.board_run.proofs.Few.{may_dispatch}
 use Rattle.board_run.proofs.Services.{not_below}
 use Rattle.board_run.proofs.EndServices.{nest_serves, wake_serves, refuse_nest, places_few}
-use Rattle.board_run.specs.Places.{PendingDispatch}
+use Rattle.board_run.specs.Shown.{PendingDispatch}
 use Rattle.board_run.specs.Represents.{state_of}
 use Rattle.board_run.proofs.engine.Engine.raise_now.Goals as goal
 

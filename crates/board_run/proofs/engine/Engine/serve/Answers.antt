@@ -4,7 +4,7 @@ use Rattle.board_world.specs.Kinds.{Pauses, Waits, Listens}
 use Rattle.bank_model.specs.Standing.{fiber_on}
 use Rattle.bank_model.specs.AllServices.{service, with_code, word_argument, asked_listener}
 use Rattle.fiber_runtime.specs.declared.blocking.Why.TheVariants.{Pause, Wait}
-use Rattle.board_run.specs.Blocking.{blocks_for}
+use Rattle.board_run.specs.Serving.{blocks_for}
 use Rattle.board_run.proofs.AskServices.{back}
 use Rattle.board_run.proofs.ServedAs.{served_at, served_as}
 use Rattle.board_run.proofs.engine.Engine.serve.Goals as goal

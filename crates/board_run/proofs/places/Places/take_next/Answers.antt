@@ -1,6 +1,6 @@
 use Rattle.std.proofs.Common.{◌∷◌, ℕ, Option, IfSome, sym, subst, refl, reverse}
 use Rattle.board_world.specs.declared.events.Event.{Event}
-use Rattle.board_run.specs.Places.{Takes}
+use Rattle.board_run.specs.Shown.{Takes}
 use Rattle.board_run.proofs.Bits.{takes_of}
 use Rattle.board_run.proofs.places.Places.take_next.Goals.{in-Some, in-None}
 use Rattle.board_run.proofs.places.Places.take_next.Goals as goal
