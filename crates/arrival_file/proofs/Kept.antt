@@ -4,7 +4,7 @@ use Rattle.std.proofs.lemmas.Bool.Decides.{nat_tests}
 use Rattle.std.proofs.lemmas.List.Elements.{All-head, All-weaker}
 use Rattle.serde_json.specs.Data.{Data}
 use Rattle.board_world.specs.Runs.{Rises}
-use Rattle.board_world.specs.Scripts.{IsSoundAct}
+use Rattle.board_world.specs.Board.{IsSoundAct}
 use Rattle.event_script.specs.Order.{falls_by}
 use Rattle.event_script.specs.Sound.{HasSmallNumbers}
 use Rattle.event_script.specs.Trees.{whole, has_members, only_if, list_of}

@@ -1,7 +1,7 @@
 -- When arrivals are sound, and what those that were read keep to besides.
 use Rattle.std.specs.Prelude.{◌≤◌, List, length, All, IsTrue}
 use Rattle.board_world.specs.Runs.{Rises}
-use Rattle.board_world.specs.Scripts.{IsSoundAct}
+use Rattle.board_world.specs.Board.{IsSoundAct}
 use Rattle.event_script.specs.World.{world_act}
 use Rattle.event_script.specs.Sound.{HasSmallNumbers}
 use Rattle.arrival_file.specs.declared.arrival.Arrival.{Arrival}

@@ -8,7 +8,7 @@ use Rattle.thumb_code.specs.Machine.{base_of}
 use Rattle.thumb_code.specs.Step.{Fetched, Found, Missed, fetched, ran, stepped_at}
 use Rattle.board_world.specs.declared.events.Event.{Event}
 use Rattle.board_world.specs.declared.events.Listener.{Listener}
-use Rattle.board_world.specs.Modes.{queues_if_busy}
+use Rattle.board_world.specs.Rules.{queues_if_busy}
 use Rattle.board_world.specs.Transcript.{decimal_text}
 use Rattle.board_world.specs.Kinds.{Question, Turn, Goes, Takes, Pauses, Waits, Spawns, Listens, RaisesNow, Ends, Faults, Writes, Raises, Plots, Displays, Sets, Sends, Time, Value, Pressed}
 use Rattle.board_world.specs.Simulation.{Ties, ties, Going, Matches, Follows, Simulation, one, always}

@@ -6,7 +6,7 @@ use Rattle.thumb_code.specs.Faults.{bad_service, not_thumb}
 use Rattle.thumb_code.specs.RegisterFile.{low, put_low, is_odd}
 use Rattle.board_world.specs.declared.events.Event.{Event}
 use Rattle.board_world.specs.declared.events.Listener.{Listener}
-use Rattle.board_world.specs.Modes.{queues_if_busy}
+use Rattle.board_world.specs.Rules.{queues_if_busy}
 use Rattle.board_world.specs.Panics.{null_panic}
 use Rattle.board_world.specs.Observations.{ByteList}
 use Rattle.board_world.specs.Transcript.{decimal_text}

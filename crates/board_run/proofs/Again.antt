@@ -4,11 +4,10 @@ use Rattle.std.specs.Ordering.{int_eq}
 use Rattle.std.specs.Prelude.{ℤ, pos, negsuc, ◌==◌, ◌+◌}
 use Rattle.board_world.specs.declared.events.Event.{Event}
 use Rattle.board_world.specs.Limits.{arena_limit, seat_limit, listener_limit, raiser_limit, queue_limit, pin_limit}
-use Rattle.board_world.specs.Modes.{reentrant}
+use Rattle.board_world.specs.Rules.{reentrant, matches}
 use Rattle.board_world.specs.Panics.{arena_panic, seat_panic, listener_panic, raiser_panic}
 use Rattle.board_world.specs.Frame.{plotted}
 use Rattle.board_world.specs.Observations.{ByteList, End, Panicked, Faulted}
-use Rattle.board_world.specs.Rules.{matches}
 use Rattle.board_world.specs.Board.{Board}
 use Rattle.board_world.specs.Waiting.{Hearing, how_many, held_by}
 use Rattle.board_world.specs.Activities.{Activity, World, busy, handlers, holding}

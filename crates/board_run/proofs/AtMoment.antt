@@ -8,7 +8,8 @@ use Rattle.board_world.specs.Rules.{earlier, up_to}
 use Rattle.board_world.specs.Board.{Board, Entry, next_entry}
 use Rattle.board_world.specs.Waiting.{least}
 use Rattle.board_world.specs.Activities.{World}
-use Rattle.board_world.specs.Before.{IsRisingFrom, WakeFrom, is_by_clock, is_jump_before, moves_before, idled_before}
+use Rattle.board_world.specs.Before.{IsRisingFrom, is_by_clock, is_jump_before, moves_before, idled_before}
+use Rattle.board_world.proofs.Laws.{WakeFrom}
 use Rattle.class_world.proofs.Laws.{rests, none_before_first, IsStanding, standing_run, standing_idled}
 use Rattle.bank_model.specs.Fibers.{Fiber, Shared}
 use Rattle.bank_model.specs.BoardMachine.{fibers}

@@ -7,9 +7,8 @@ use Rattle.board_world.specs.declared.clock.Idle.TheVariants.{Jump, Quiet, Scrip
 use Rattle.board_world.specs.Limits.{end_limit}
 use Rattle.board_world.specs.Observations.{Quietly, By_script}
 use Rattle.board_world.specs.Rules.{clock_move}
-use Rattle.board_world.specs.Scripts.{IsSoundAct}
+use Rattle.board_world.specs.Board.{IsSoundAct, Board, over, ended_by, arrive_all, next_entry}
 use Rattle.board_world.specs.Waiting.{least}
-use Rattle.board_world.specs.Board.{Board, over, ended_by, arrive_all, next_entry}
 use Rattle.board_world.specs.Activities.{World}
 use Rattle.board_world.specs.World.{moved, clock_moves, jump}
 use Rattle.board_world.proofs.Laws.{jump_from, jump_soonest, some_due, length_chosen_left}

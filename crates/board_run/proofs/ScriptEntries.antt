@@ -2,8 +2,7 @@
 use Rattle.std.proofs.Common.{All, ◌≡◌, ◌≢◌, ℕ, zero, suc, ◌+◌, ◌*◌, ◌<◌, ◌≤◌, ◌==◌, nat_lt, Bool, true, false, if◌then◌else◌, List, [], ◌∷◌, ◌++◌, length, drop, Option, Some, None, refl, sym, ap, ◌∙◌, subst, arith, append_assoc, slice_get}
 use Rattle.std.proofs.lemmas.Bool.Decides.{nat_tests}
 use Rattle.std.proofs.lemmas.List.{append-nil}
-use Rattle.board_world.specs.Board.{Board, arrive, arrive_all, next_entry}
-use Rattle.board_world.specs.Scripts.{IsSoundAct}
+use Rattle.board_world.specs.Board.{Board, arrive, arrive_all, next_entry, IsSoundAct}
 use Rattle.board_drivers.specs.Buttons.{Since, HasButtons}
 use Rattle.message_bus.specs.BusState.{BusState}
 use Rattle.event_script.specs.World.{world_act, world_entries}

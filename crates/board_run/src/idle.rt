@@ -2,8 +2,7 @@
 ghost use Rattle.std.specs.Prelude.{◌≡◌, ◌+◌, ◌*◌, ◌<◌, ◌≤◌, ℕ, List, [], Some, None, All, IsSome, drop, length};
 ghost use Rattle.std.specs.Bool.{OnTrue, OnFalse};
 ghost use Rattle.board_world.specs.Limits.{end_limit};
-ghost use Rattle.board_world.specs.Scripts.{IsSoundAct};
-ghost use Rattle.board_world.specs.Board.{next_entry};
+ghost use Rattle.board_world.specs.Board.{IsSoundAct, next_entry};
 ghost use Rattle.board_world.specs.Before.{IsRisingFrom};
 ghost use Rattle.board_run.specs.Going.{CameTo, queued_all};
 ghost use Rattle.event_script.specs.World.{world_act, world_entries};

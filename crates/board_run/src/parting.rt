@@ -1,6 +1,6 @@
 //! A board that is run in parts, between which somebody outside acts.
 ghost use Rattle.std.specs.Prelude.{◌≡◌, ◌+◌, ◌<◌, ◌≤◌, ◌⊎◌, ◌^◌, [], None, IfNone, IsSome};
-ghost use Rattle.board_world.specs.Scripts.{IsSoundAct};
+ghost use Rattle.board_world.specs.Board.{IsSoundAct};
 ghost use Rattle.event_script.specs.World.{world_act};
 ghost use Rattle.board_run.specs.Advancing.{IsWhole, IsSettled};
 ghost use Rattle.board_run.specs.Outside.{PortsMeet, over_sink};

@@ -12,7 +12,7 @@ use Rattle.board_world.specs.Waiting.{least, how_many, none, held_by}
 use Rattle.board_world.specs.Activities.{Activity, World, handlers}
 use Rattle.board_world.specs.World.{moved, clock_moves, idle_while, idle_bound, lacks_seat, blocks, leaves, ends_with, ends, acted, stepped}
 use Rattle.board_world.specs.Runs.{run}
-use Rattle.board_world.specs.Invariants.{MayEnd, FaultsWithin, SoundEnd, Extends}
+use Rattle.board_world.specs.Sound.{MayEnd, FaultsWithin, SoundEnd, Extends}
 use Rattle.std.proofs.lemmas.List.{append-nil}
 use Rattle.board_world.proofs.Stays.{if_keeps, run_sum}
 

@@ -8,7 +8,7 @@ pub use Rattle.board_world.proofs.Settle.{settles, idled_first, jump_from, jump_
 -- what comes before a moment doesn't hang on the script's entries from then on, and the clock doesn't go back
 pub use Rattle.board_world.proofs.Before.{run_then, run_settled}
 pub use Rattle.board_world.proofs.Onwards.{first_before, idled_on_to, run_alike, run_on_to}
-pub use Rattle.board_world.proofs.Timely.{On, on_trans, by_clock_over, clock_all, moved_on, idle_on, acted_on, tick_on}
+pub use Rattle.board_world.proofs.Timely.{WakeFrom, IsTimely, On, on_trans, by_clock_over, clock_all, moved_on, idle_on, acted_on, tick_on}
 pub use Rattle.board_world.proofs.Settle.{progress, due}
 pub use Rattle.board_world.proofs.Timely.{run_timely, run_same, run_settles, later_waits, rises_in_order}
 -- lists that are related one by one

@@ -8,10 +8,9 @@ use Rattle.board_world.specs.Kinds.{Kind, Turn, Goes, Asks, Takes, Pauses, Waits
 use Rattle.board_world.specs.Activities.{World}
 use Rattle.board_world.specs.World.{start, tick}
 use Rattle.board_world.specs.Runs.{Arrival, acts, acts_at, run_with, Rises, Keeps}
-use Rattle.board_world.specs.Invariants.{FaultsWithin, SoundEnd}
+use Rattle.board_world.specs.Sound.{FaultsWithin, SoundEnd, NoFault, PartialSimulation, Typing, After, Further, Ready, Stays, Sound}
 use Rattle.board_world.specs.Simulation.{Ties, Onward, Going, Listening, Begins, Matches, Follows, Simulation, Alike, one, always}
 use Rattle.board_world.specs.Composed.{level}
-use Rattle.board_world.specs.Sound.{NoFault, PartialSimulation, Typing, After, Further, Ready, Stays, Sound}
 use Rattle.board_world.specs.Implements.{EndsByNoFault, Implements, boards_from}
 use Rattle.board_world.specs.Trailing.{PartialTrailingSimulation}
 use Rattle.board_world.proofs.Trailing.{TrailingSimulation}

@@ -17,10 +17,20 @@ use Rattle.board_world.specs.Activities.{Activity, World, handlers}
 use Rattle.board_world.specs.World.{lacks_seat, jump, clock_moves, ends_with, ends, moved, idle_while, idle_bound, idled, blocks, acted, stepped, tick}
 use Rattle.board_world.specs.Runs.{run}
 use Rattle.board_world.specs.Simulation.{IsSettled}
-use Rattle.board_world.specs.Before.{IsFrom, IsRisingFrom, WakeFrom, IsTimely, then_later, is_by_clock, is_jump_before, moves_before, idle_before, stepped_before, tick_before, run_before}
+use Rattle.board_world.specs.Before.{IsFrom, IsRisingFrom, then_later, is_by_clock, is_jump_before, moves_before, idle_before, stepped_before, tick_before, run_before}
 use Rattle.board_world.proofs.Stays.{if_keeps, over_stays}
 use Rattle.board_world.proofs.Settle.{jump_from, jump_soonest, least_from, settles}
 use Rattle.board_world.proofs.Before.{run_then, run_settled}
+
+-- nobody wakes before the moment
+abbrev pub WakeFrom : {Y : Type 0} → ℕ → List (ℕ × Y) → Type 0
+WakeFrom t [] = Unit {0}
+WakeFrom t (p ∷ ps) = (t ≤ p.0) × WakeFrom t ps
+
+-- nobody is to wake, and no entry to come, before the present, and the entries stand in order
+pub record IsTimely {A S : Type 0} (w : World A S) : Type 0 where
+  pub sleepers : WakeFrom w.board.clock w.sleepers
+  pub script : IsRisingFrom w.board.clock w.board.script
 
 -- what an act or an answer leaves of the board: the clock and the script
 abbrev Untouched : ℕ → List Entry → Board → Type 0

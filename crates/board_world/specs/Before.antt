@@ -20,16 +20,6 @@ abbrev pub IsRisingFrom : ℕ → List Entry → Type 0
 IsRisingFrom t [] = Unit {0}
 IsRisingFrom t (e ∷ es) = (t ≤ e.at) × IsRisingFrom e.at es
 
--- nobody wakes before the moment
-abbrev pub WakeFrom : {Y : Type 0} → ℕ → List (ℕ × Y) → Type 0
-WakeFrom t [] = Unit {0}
-WakeFrom t (p ∷ ps) = (t ≤ p.0) × WakeFrom t ps
-
--- nobody is to wake, and no entry to come, before the present, and the entries stand in order
-pub record IsTimely {A S : Type 0} (w : World A S) : Type 0 where
-  pub sleepers : WakeFrom w.board.clock w.sleepers
-  pub script : IsRisingFrom w.board.clock w.board.script
-
 -- the same with these entries behind the rest of the script
 abbrev pub board_then : List Entry → Board → Board
 board_then later b = record b { script = b.script ++ later }

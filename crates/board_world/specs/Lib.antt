@@ -1,5 +1,4 @@
 pub mod Limits
-pub mod Modes
 pub mod Panics
 pub mod Observations
 pub mod Transcript
@@ -7,7 +6,6 @@ pub mod Rules
 pub mod Frame
 pub mod Font
 pub mod Board
-pub mod Scripts
 pub mod Kinds
 pub mod Waiting
 pub mod Activities
@@ -17,7 +15,6 @@ pub mod Before
 pub mod Simulation
 pub mod Composed
 pub mod Runs
-pub mod Invariants
 pub mod Implements
 pub mod Sound
 pub mod Trailing

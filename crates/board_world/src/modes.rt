@@ -1,7 +1,7 @@
 //! What a listener does with an event while its handler is busy, by the number of its mode.
 
 ghost use Rattle.std.specs.Prelude.{◌≡◌};
-ghost use Rattle.board_world.specs.Modes.{reentrant, queues_if_busy, drops_if_busy};
+ghost use Rattle.board_world.specs.Rules.{reentrant, queues_if_busy, drops_if_busy};
 
 /// A further handler begins.
 pub const REENTRANT: i32 = 8;

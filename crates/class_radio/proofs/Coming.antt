@@ -16,7 +16,8 @@ use Rattle.board_world.specs.Kinds.{Kind}
 use Rattle.board_world.specs.Activities.{Activity, World}
 use Rattle.board_world.specs.World.{idle_bound}
 use Rattle.board_world.specs.Simulation.{IsSettled}
-use Rattle.board_world.specs.Before.{IsRisingFrom, IsTimely, idle_before, idled_before, run_before}
+use Rattle.board_world.specs.Before.{IsRisingFrom, idle_before, idled_before, run_before}
+use Rattle.board_world.proofs.Laws.{IsTimely}
 use Rattle.class_world.specs.Hearing.{moment_of, before, with_heard, raised_at}
 use Rattle.class_world.specs.Classes.{world_before}
 use Rattle.class_world.specs.Keeping.{moment_run}

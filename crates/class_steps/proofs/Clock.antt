@@ -10,8 +10,8 @@ use Rattle.board_world.specs.Waiting.{least}
 use Rattle.board_world.specs.Kinds.{Kind}
 use Rattle.board_world.specs.Activities.{Activity, World}
 use Rattle.board_world.specs.World.{jump, clock_moves, moved, idle_bound}
-use Rattle.board_world.specs.Before.{IsTimely, is_by_clock, is_jump_before, moves_before, idle_before, idled_before, run_before}
-use Rattle.board_world.proofs.Laws.{On, on_trans, by_clock_over, clock_all, moved_on, first_before}
+use Rattle.board_world.specs.Before.{is_by_clock, is_jump_before, moves_before, idle_before, idled_before, run_before}
+use Rattle.board_world.proofs.Laws.{IsTimely, On, on_trans, by_clock_over, clock_all, moved_on, first_before}
 use Rattle.class_world.proofs.Laws.{end_all, on_run}
 
 module _ {A S : Type 0} (K : Kind A S) (u : ℕ) where

@@ -8,8 +8,8 @@ use Rattle.board_world.specs.Observations.{ByteList, Observation, End}
 use Rattle.board_world.specs.Transcript.{line, closing_line}
 use Rattle.board_world.specs.Board.{Board, over}
 use Rattle.board_world.specs.Activities.{World}
-use Rattle.board_world.specs.Before.{IsRisingFrom, IsTimely, is_by_clock}
-use Rattle.board_world.proofs.Laws.{run_settled, run_same, run_over, run_sum, extends_run}
+use Rattle.board_world.specs.Before.{IsRisingFrom, is_by_clock}
+use Rattle.board_world.proofs.Laws.{IsTimely, run_settled, run_same, run_over, run_sum, extends_run}
 use Rattle.class_world.specs.Hearing.{moment_of, before, with_heard, raised_at}
 use Rattle.class_world.specs.Classes.{Played, starting, world_of, world_before, Passes, IsAtRest}
 use Rattle.class_world.specs.Lines.{numbered, seen_at, is_stopped, stopped_at, lines_at}

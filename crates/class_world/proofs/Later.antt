@@ -11,8 +11,8 @@ use Rattle.board_world.specs.Waiting.{least}
 use Rattle.board_world.specs.Kinds.{Kind, Turn}
 use Rattle.board_world.specs.Activities.{Activity, World}
 use Rattle.board_world.specs.World.{jump, clock_moves, moved, idle_bound, acted}
-use Rattle.board_world.specs.Before.{IsTimely, is_by_clock, is_jump_before, moves_before, idle_before, idled_before, stepped_before, tick_before, run_before}
-use Rattle.board_world.proofs.Laws.{if_keeps, On, on_trans, by_clock_over, clock_all, moved_on, acted_on, first_before}
+use Rattle.board_world.specs.Before.{is_by_clock, is_jump_before, moves_before, idle_before, idled_before, stepped_before, tick_before, run_before}
+use Rattle.board_world.proofs.Laws.{IsTimely, if_keeps, On, on_trans, by_clock_over, clock_all, moved_on, acted_on, first_before}
 use Rattle.class_world.specs.Hearing.{before}
 use Rattle.class_world.proofs.Moments.{now_acted, before_later, seen_idle_before, seen_all, end_all}
 

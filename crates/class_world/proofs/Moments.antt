@@ -17,8 +17,8 @@ use Rattle.board_world.specs.Activities.{Activity, World, handlers}
 use Rattle.board_world.specs.World.{lacks_seat, clock_moves, ends_with, ends, moved, idle_while, idle_bound, idled, blocks, acted, stepped, tick}
 use Rattle.board_world.specs.Runs.{run}
 use Rattle.board_world.specs.Simulation.{IsSettled}
-use Rattle.board_world.specs.Before.{IsTimely, is_by_clock, is_jump_before, moves_before, idle_before, idled_before, stepped_before, tick_before, run_before}
-use Rattle.board_world.proofs.Laws.{jump_soonest, if_keeps, over_stays, busy_stays, idled_first, progress, due, On, by_clock_over, clock_all, moved_on, idle_on, acted_on, tick_on}
+use Rattle.board_world.specs.Before.{is_by_clock, is_jump_before, moves_before, idle_before, idled_before, stepped_before, tick_before, run_before}
+use Rattle.board_world.proofs.Laws.{IsTimely, jump_soonest, if_keeps, over_stays, busy_stays, idled_first, progress, due, On, by_clock_over, clock_all, moved_on, idle_on, acted_on, tick_on}
 use Rattle.class_world.specs.Hearing.{moment_of, before}
 use Rattle.class_world.specs.Classes.{Passes}
 

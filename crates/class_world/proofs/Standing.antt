@@ -14,8 +14,8 @@ use Rattle.board_world.specs.Kinds.{Kind, Question, Raises, Plots, Displays, Wri
 use Rattle.board_world.specs.Waiting.{left, least, none, how_many, held_by}
 use Rattle.board_world.specs.Activities.{Activity, World, handlers}
 use Rattle.board_world.specs.World.{lacks_seat, stops, jump, clock_moves, ends_with, ends, moved, idle_bound, blocks, acted}
-use Rattle.board_world.specs.Before.{IsRisingFrom, WakeFrom, is_by_clock, is_jump_before, moves_before, idle_before, idled_before, stepped_before, tick_before, run_before}
-use Rattle.board_world.proofs.Laws.{if_keeps, clock_all}
+use Rattle.board_world.specs.Before.{IsRisingFrom, is_by_clock, is_jump_before, moves_before, idle_before, idled_before, stepped_before, tick_before, run_before}
+use Rattle.board_world.proofs.Laws.{WakeFrom, if_keeps, clock_all}
 use Rattle.class_world.proofs.Moments.{until_all, end_all}
 
 -- what no turn changes of a board but by ending the run

@@ -5,7 +5,7 @@ use Rattle.std.specs.Int.{cast_signed, w32}
 use Rattle.thumb_code.specs.RegisterFile.{is_odd}
 use Rattle.board_world.specs.declared.requests.Request.{Request}
 use Rattle.board_world.specs.declared.requests.Request.TheVariants as ask
-use Rattle.board_world.specs.Modes.{queues_if_busy}
+use Rattle.board_world.specs.Rules.{queues_if_busy}
 use Rattle.board_world.specs.Observations.{ByteList}
 use Rattle.board_world.specs.Transcript.{decimal_text}
 use Rattle.board_world.specs.Font.{glyph_of, frame_of, rows_in, capital, font}

@@ -8,7 +8,7 @@ use Rattle.serde_json.specs.Data.{Data}
 use Rattle.serde_json.specs.Find.{get, as_number, as_u64}
 use Rattle.board_world.specs.Board as board
 use Rattle.board_world.specs.Limits.{end_limit, last_port}
-use Rattle.board_world.specs.Scripts.{IsSoundAct}
+use Rattle.board_world.specs.Board.{IsSoundAct}
 use Rattle.event_script.specs.Limits.{entry_limit, greatest_number}
 use Rattle.event_script.specs.declared.script.Act.{Act}
 use Rattle.event_script.specs.declared.script.Act.TheVariants.{Down, Up, Unplug}

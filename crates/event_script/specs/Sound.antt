@@ -1,6 +1,6 @@
 -- When a script is sound, and what a script that was read keeps to besides.
 use Rattle.std.specs.Prelude.{◌≤◌, ◌≤ℤ◌, pos, length, All}
-use Rattle.board_world.specs.Scripts.{IsSoundScript}
+use Rattle.board_world.specs.Board.{IsSoundScript}
 use Rattle.event_script.specs.declared.script.Act.{Act}
 use Rattle.event_script.specs.declared.script.Act.TheVariants.{Raise}
 use Rattle.event_script.specs.declared.script.Script.{Script}

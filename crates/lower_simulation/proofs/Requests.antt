@@ -3,7 +3,7 @@ use Rattle.std.proofs.Common.{◌≡◌, ℕ, ◌<◌, List, [], ◌∷◌, Opti
 use Rattle.std.specs.Prelude.{ℤ}
 use Rattle.board_world.specs.declared.requests.Request.{Request}
 use Rattle.board_world.specs.declared.requests.Request.TheVariants.{Pause, Wait, Raise, RaiseNow, Plot, Show, WriteNumber, WriteText, PinWrite, Radio, Time, EventValue, Button, TextGlyph, NumberGlyph, Panic}
-use Rattle.board_world.specs.Modes.{queues_if_busy}
+use Rattle.board_world.specs.Rules.{queues_if_busy}
 use Rattle.sts_meaning.specs.Values.{Value, Whole, Code, Outcome, Gives, Breaks, Stuck, then_gives, whole}
 use Rattle.sts_meaning.specs.Services.{requested, text, code, mode, event, with_none, with_one, with_two, with_three, of_one, of_two, of_event, of_listener}
 use Rattle.lower_simulation.specs.Places.{Marks, NamesAmong, AllAmong, IsProper}

@@ -13,7 +13,7 @@ use Rattle.sts_syntax.specs.TypeRules.{MayBegin}
 use Rattle.sts_syntax.specs.WellTyped.{Setting, IsAsked}
 use Rattle.sts_meaning.specs.Values.{Value, Whole, Object, Text, Code, Outcome, whole}
 use Rattle.sts_meaning.specs.Heaps.{Heap}
-use Rattle.board_world.specs.Modes.{queues_if_busy}
+use Rattle.board_world.specs.Rules.{queues_if_busy}
 use Rattle.sts_meaning.specs.Services.{event, text, code, mode, with_none, with_one, with_two, with_three, with_four, of_one, of_two, of_listener, requested}
 use Rattle.sts_meaning.specs.Continuation.{Continuation, asks, gives_value}
 use Rattle.meaning_sound.specs.Sorts.{Sort, Of, Begins, Exactly, sorts_of, above, Well, Is, IsA, IsRequest, Asks}

@@ -5,15 +5,14 @@ use Rattle.std.proofs.lemmas.Bool.Decides.{nat_tests}
 use Rattle.board_world.specs.declared.events.Event.{Event}
 use Rattle.board_world.specs.declared.events.Listener.{Listener}
 use Rattle.board_world.specs.Limits.{held_limit}
-use Rattle.board_world.specs.Modes.{drops_if_busy}
+use Rattle.board_world.specs.Rules.{drops_if_busy}
 use Rattle.std.specs.List.{list_any}
-use Rattle.board_world.specs.Waiting.{how_many, none}
+use Rattle.board_world.specs.Waiting.{how_many, none, handler_of}
 use Rattle.board_world.specs.Activities.{Activity, World, is_of, busy, begins_for, handlers, holds, holding}
 use Rattle.message_bus.specs.ListenerState.{fresh, ListenerState, wants, begins_new, holds_it, with_held, heard, ended}
 use Rattle.message_bus.specs.BusState.{changed, alive_at}
 use Rattle.message_bus.specs.Agreement.{hearings, living, begun}
 use Rattle.message_bus.proofs.Counting.{is_zero, zero-test, none-many}
-use Rattle.board_world.specs.Waiting.{handler_of}
 use Rattle.message_bus.specs.ListenerState.{ended_with}
 use Rattle.message_bus.specs.Numbers.{beginning}
 use Rattle.message_bus.specs.Agreement.{handler_activity}

@@ -5,23 +5,20 @@ use Rattle.board_world.specs.declared.events.Event.{Event}
 use Rattle.board_world.specs.declared.events.Listener.{Listener}
 use Rattle.board_world.specs.Limits.{arena_limit, listener_limit, pin_limit, queue_limit, raiser_limit, seat_limit}
 use Rattle.std.specs.List.{list_any}
-use Rattle.board_world.specs.Waiting.{how_many, chosen, left, hears, none, held_by, released}
+use Rattle.board_world.specs.Waiting.{how_many, chosen, left, hears, none, held_by, released, handler_of}
 use Rattle.board_world.specs.Activities.{Activity, World, is_of, is_number, handlers, holding, woken}
-use Rattle.board_world.specs.Kinds.{Kind, Listens, RaisesNow}
-use Rattle.board_world.specs.World.{dispatch, acted, ends, ends_with}
+use Rattle.board_world.specs.Kinds.{Kind, Listens, RaisesNow, Question, Raises, Plots, Displays, Writes, Sets, Sends, Time, Value, Pressed, Asks, Takes, Pauses, Waits, Spawns, answer, wrote, was_set}
+use Rattle.board_world.specs.World.{dispatch, acted, ends, ends_with, goes_on, leaves, jump, stops, lacks_seat, blocks}
 use Rattle.message_bus.specs.ListenerState.{fresh, ListenerState, begins_new, heard, ended}
 use Rattle.message_bus.specs.BusState.{BusState, changed, alive_at, held_at}
 use Rattle.message_bus.specs.Agreement.{Agrees, hearings, living, begun}
 use Rattle.message_bus.proofs.Counting.{many-append, many-map, many-woken}
 use Rattle.message_bus.proofs.Handlers.{grown, handlers-begun, holding-heard, none-begun, begun-mapped}
-use Rattle.board_world.specs.Waiting.{handler_of}
 use Rattle.message_bus.specs.Numbers.{beginning}
 use Rattle.message_bus.specs.Agreement.{handler_activity}
-use Rattle.board_world.specs.Kinds.{Question, Raises, Plots, Displays, Writes, Sets, Sends, Time, Value, Pressed, Asks, Takes, Pauses, Waits, Spawns, answer, wrote, was_set}
 use Rattle.board_world.specs.Frame.{plotted}
 use Rattle.board_world.specs.Board.{Board, arrive_all}
 use Rattle.board_world.specs.Observations.{ByteList, End}
-use Rattle.board_world.specs.World.{goes_on, leaves, jump, stops, lacks_seat, blocks}
 use Rattle.message_bus.specs.Agreement.{asked_queue}
 
 woken-many : {A : Type 0} (i : ℕ) (value : ℤ) (xs : List (Activity A)) → how_many (is_of i) (map (woken value) xs) ≡ how_many (is_of i) xs

@@ -4,8 +4,7 @@ use Rattle.std.specs.Ordering.{int_eq}
 use Rattle.board_world.specs.declared.events.Event.{Event}
 use Rattle.board_world.specs.declared.events.Listener.{Listener}
 use Rattle.board_world.specs.Limits.{held_limit}
-use Rattle.board_world.specs.Modes.{reentrant, drops_if_busy}
-use Rattle.board_world.specs.Rules.{matches}
+use Rattle.board_world.specs.Rules.{reentrant, drops_if_busy, matches}
 use Rattle.board_world.specs.Waiting.{Hearing}
 
 -- a listener with the events that it holds, and how many activities of it are alive

@@ -1,6 +1,6 @@
 // Worked rows: twelve events for a listener whose handler doesn't end, by its mode.
 ghost use Rattle.std.specs.Prelude.{◌≡◌, pos, Some, [], ◌∷◌};
-ghost use Rattle.board_world.specs.Modes.{reentrant, queues_if_busy, drops_if_busy};
+ghost use Rattle.board_world.specs.Rules.{reentrant, queues_if_busy, drops_if_busy};
 ghost use Rattle.message_bus.specs.ListenerState.{oldest, ended};
 ghost use Rattle.message_bus.specs.TwelveEvents.{event, events, after_twelve, busy_with};
 

@@ -5,7 +5,7 @@ use Rattle.board_world.specs.declared.events.Event.{Event}
 use Rattle.board_world.specs.declared.events.Listener.{Listener}
 use Rattle.board_world.specs.declared.requests.Request.{Request}
 use Rattle.board_world.specs.declared.requests.Request.TheVariants.{Pause, Wait, Spawn, Listen, Raise, RaiseNow, Plot, Show, WriteNumber, WriteText, PinWrite, Radio, Time, EventValue, Button, TextGlyph, NumberGlyph, Panic}
-use Rattle.board_world.specs.Modes.{queues_if_busy}
+use Rattle.board_world.specs.Rules.{queues_if_busy}
 use Rattle.board_world.specs.Panics.{null_panic}
 use Rattle.sts_meaning.specs.Values.{Value, Whole, Text, Code, Outcome, Gives, Breaks, Stuck, then_gives, whole}
 
