@@ -3,9 +3,8 @@ use Rattle.std.proofs.Common.{zero, suc, ◌≡◌, ◌≢◌, ℕ, ◌+◌, ◌
 use Rattle.std.proofs.lemmas.List.{get_or-set_other}
 use Rattle.std.proofs.lemmas.Bool.Decides.{nat_tests}
 use Rattle.thumb_code.specs.Map.{globals_at, arena_at, stack_at, ram_end, merged, word_in}
-use Rattle.thumb_code.specs.Ram.{Ram, ram_word}
 use Rattle.armv6m_machine.specs.Words.{begins_ram_word, with_word}
-use Rattle.thumb_code.specs.Machine.{State}
+use Rattle.thumb_code.specs.Machine.{State, Ram, ram_word}
 use Rattle.bank_model.specs.Arrays.{put_word, put_words, words_from, length_of, room_of, items_at, items_of, grown_room, moved}
 use Rattle.arena_heap.specs.Pushing.{IsArenaWord, with_arena}
 

@@ -2,8 +2,7 @@
 use Rattle.std.proofs.Common.{suc, ◌≡◌, ◌≢◌, ℕ, ◌+◌, ◌*◌, ◌-◌, ◌/◌, ◌%◌, ◌<◌, ◌≤◌, ◌^◌, ⊎_elim, Bool, true, false, not, nat_lt, ◌==◌, ◌&&◌, refl, sym, ap, ◌∙◌, subst, arith}
 use Rattle.std.specs.Prelude.{ℤ, pos, negsuc, int_lt, int_le}
 use Rattle.std.specs.Int.{cast_signed, w32}
-use Rattle.thumb_code.specs.Arithmetic.{sign, bit_of, inverted, sum_of, sum_flags}
-use Rattle.thumb_code.specs.Conditions.{holds}
+use Rattle.thumb_code.specs.Arithmetic.{sign, bit_of, inverted, sum_of, sum_flags, holds}
 use Rattle.arena_values.proofs.Addresses.{which}
 use Rattle.arena_values.proofs.Signs.{signed_low, signed_high}
 

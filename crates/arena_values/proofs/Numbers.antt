@@ -11,8 +11,7 @@ use Rattle.std.specs.Prelude.{FitsSigned, unsigned_abs}
 use Rattle.std.proofs.Math.Nat.{div-le_self}
 use Rattle.thumb_code.specs.RegisterFile.{word}
 use Rattle.thumb_code.specs.Arithmetic.{sign, inverted, sum_of, shifted, lsl, lsr, asr}
-use Rattle.bank_model.specs.Division.{quotient, remainder}
-use Rattle.bank_model.specs.AllServices.{number_word}
+use Rattle.bank_model.specs.AllServices.{number_word, quotient, remainder}
 use Rattle.sts_meaning.specs.Values.{to_int32, shift_count}
 use Rattle.sts_meaning.specs.Values as values
 use Rattle.arena_values.specs.Operators.{shifted_by}

@@ -2,9 +2,8 @@
 use Rattle.std.specs.Prelude.{ℕ, ◌*◌, ◌%◌, ◌==◌, if◌then◌else◌, bit_and, bit_or, bit_xor}
 use Rattle.std.specs.Int.{cast_signed, cast_unsigned, w32}
 use Rattle.thumb_code.specs.RegisterFile.{word}
-use Rattle.thumb_code.specs.Arithmetic.{bit_of, inverted, sum_of, sum_flags, shifted, lsl, lsr, asr}
-use Rattle.thumb_code.specs.Conditions.{holds}
-use Rattle.bank_model.specs.Division.{quotient, remainder}
+use Rattle.thumb_code.specs.Arithmetic.{bit_of, inverted, sum_of, sum_flags, shifted, lsl, lsr, asr, holds}
+use Rattle.bank_model.specs.AllServices.{quotient, remainder}
 use Rattle.sts_syntax.specs.declared.operators.TheConstants.{NEGATE, PLUS, NOT, COMPLEMENT, BIT_OR, BIT_XOR, BIT_AND, EQUAL, UNEQUAL, LESS, GREATER, AT_MOST, AT_LEAST, SHIFT_LEFT, SHIFT_RIGHT, SHIFT_RIGHT_UNSIGNED, ADD, SUBTRACT, MULTIPLY, DIVIDE}
 use Rattle.flat_ir.specs.declared.operators.TheConstants.{INCREMENT}
 

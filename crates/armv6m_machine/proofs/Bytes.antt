@@ -6,7 +6,7 @@ use Rattle.thumb_code.specs.Faults.{unaligned, out_of_map}
 use Rattle.thumb_code.specs.RegisterFile.{aligned}
 use Rattle.thumb_code.specs.Forms.{Access}
 use Rattle.thumb_code.specs.Map.{globals_at, arena_at, stack_at, ram_end, in_ram, access_fault, part, merged, place}
-use Rattle.thumb_code.specs.Ram.{Ram, IsWhole, ram_memory, ram_word, ram_store}
+use Rattle.thumb_code.specs.Machine.{Ram, IsWhole, ram_memory, ram_word, ram_store}
 use Rattle.armv6m_machine.specs.Answers.{IsSize}
 use Rattle.armv6m_machine.specs.Contents.{byte_at, number_from, StoresAlone}
 

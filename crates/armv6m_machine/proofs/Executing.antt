@@ -7,7 +7,7 @@ use Rattle.armv6m_machine.specs.declared.faults.Fault.{Fault as FaultKind}
 use Rattle.armv6m_machine.specs.declared.faults.Fault.TheVariants.{StackRange}
 use Rattle.armv6m_machine.specs.declared.faults.Turn.TheVariants.{Went, Fault}
 use Rattle.armv6m_machine.specs.Answers.{number_of}
-use Rattle.armv6m_machine.specs.Turns.{Does}
+use Rattle.armv6m_machine.specs.Steps.{Does}
 
 -- It goes on.
 pub goes_on : {S : Type 0} (m : Memory S) (t : S) (e : Effect) (old new r : Registers) (mem : S) → m.has_sp t e.sp ≡ true → first_fault m t false e.loads ≡ None

@@ -11,7 +11,7 @@ use Rattle.armv6m_machine.specs.declared.faults.Fault.TheVariants.{StackRange, N
 use Rattle.armv6m_machine.specs.declared.faults.Turn.TheVariants.{Went, Fault}
 use Rattle.armv6m_machine.specs.Answers.{number_of}
 use Rattle.armv6m_machine.specs.Transfers.{loaded}
-use Rattle.armv6m_machine.specs.Turns.{Does}
+use Rattle.armv6m_machine.specs.Steps.{Does}
 use Rattle.armv6m_machine.proofs.Lists.{addresses_to, length_values, both_free}
 use Rattle.armv6m_machine.proofs.Executing.{goes_on, out_of_range, load_fails, store_fails, fails_itself}
 

@@ -3,7 +3,7 @@ use Rattle.std.proofs.Common.{◌≡◌, ℕ, zero, suc, ◌+◌, ◌*◌, List,
 use Rattle.thumb_code.specs.declared.instructions.Instr.{Instr}
 use Rattle.thumb_code.specs.Map.{is_base, ram_end}
 use Rattle.thumb_code.specs.Step.{fetched}
-use Rattle.armv6m_machine.specs.Slots.{IsSlot, AreSlots}
+use Rattle.armv6m_machine.specs.Steps.{IsSlot, AreSlots}
 
 -- One more, behind the last.
 pub slots_more : (flash : List ℕ) (at : ℕ) (xs : List (Option (Instr × Bool))) (x : Option (Instr × Bool)) → AreSlots flash at xs → IsSlot flash (at + 2 * length xs) x → AreSlots flash at (xs ++ x ∷ [])

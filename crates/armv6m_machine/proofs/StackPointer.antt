@@ -9,11 +9,10 @@ use Rattle.thumb_code.specs.Forms.{Access, Effect, Outcome, Goes, Asks, Stops}
 use Rattle.thumb_code.specs.Effect.{effect}
 use Rattle.thumb_code.specs.Map.{is_base, sp_in_range}
 use Rattle.thumb_code.specs.Memory.{Executed, Done, Asked, Stopped, or_else, first_fault, load_all, store_all, finished, accessed, execute}
-use Rattle.thumb_code.specs.Ram.{Ram, ram_memory, ram_store}
 use Rattle.thumb_code.specs.Step.{Fetched, Found, Missed, fetched, ran, stepped_at}
-use Rattle.thumb_code.specs.Machine.{State, step}
+use Rattle.thumb_code.specs.Machine.{State, step, Ram, ram_memory, ram_store}
 use Rattle.armv6m_machine.specs.Steps.{OnGoing, IsStackPointer}
-use Rattle.armv6m_machine.specs.RamLaws.{store_keeps_base}
+use Rattle.thumb_code.proofs.Laws.{store_keeps_base}
 
 cond_sp : (b : Bool) (x y : Effect) → x.sp % 4 ≡ 0 → y.sp % 4 ≡ 0 → (cond b x y).sp % 4 ≡ 0
 cond_sp true x y p q = p

@@ -3,15 +3,13 @@ use Rattle.std.proofs.Common.{◌≡◌, List, [], ◌∷◌, refl, ◌∙◌, B
 use Rattle.thumb_code.specs.declared.register_file.Registers.{Registers}
 use Rattle.thumb_code.specs.Forms.{Access, Effect}
 use Rattle.thumb_code.specs.Memory.{Executed, Done, Asked, Stopped, execute, load_all}
-use Rattle.thumb_code.specs.Ram.{Ram, ram_memory}
 use Rattle.thumb_code.specs.Step.{Stepped, On, Served, Faulted, stepped_at, behind, fetched, Found}
 use Rattle.thumb_code.specs.Effect.{effect}
 use Rattle.thumb_code.specs.declared.instructions.Instr.{Instr}
-use Rattle.thumb_code.specs.Machine.{State, step}
+use Rattle.thumb_code.specs.Machine.{State, step, Ram, ram_memory}
 use Rattle.armv6m_machine.specs.declared.faults.Turn.{Turn}
 use Rattle.armv6m_machine.specs.declared.faults.Turn.TheVariants.{Went, Service, Fault}
-use Rattle.armv6m_machine.specs.Turns.{AnswersTurn, Does, HasRead}
-use Rattle.armv6m_machine.specs.Steps.{IsStep, IsFault}
+use Rattle.armv6m_machine.specs.Steps.{IsStep, IsFault, AnswersTurn, Does, HasRead}
 
 -- Loads leave RAM as it was.
 loads_leave : (xs : List Access) (t : Ram) → (load_all ram_memory t xs).1 ≡ t

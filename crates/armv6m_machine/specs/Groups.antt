@@ -1,108 +1,88 @@
--- The instructions by what they do: one function executes each group. The commonest are in none, but in the table itself.
+-- The instructions by what they do: one function executes each group.
 use Rattle.thumb_code.specs.declared.instructions.Instr.{Instr}
 use Rattle.thumb_code.specs.declared.instructions.Instr.TheVariants.{LslImm, LsrImm, AsrImm, LslReg, LsrReg, AsrReg, Ror, SubReg, AddImm3, SubImm3, AddImm8, SubImm8, Adc, Sbc, Rsb, Cmn, CmpHigh, MovImm, And, Eor, Tst, Orr, Mul, Bic, Mvn, AddHigh, MovHigh, Adr, AddSp, AddSpImm, SubSpImm, Sxth, Sxtb, Uxth, Uxtb, Rev, Rev16, Revsh, LdrPc, Ldrsb, LdrReg, LdrhReg, LdrbReg, Ldrsh, LdrImm, LdrbImm, LdrhImm, StrReg, StrhReg, StrbReg, StrImm, StrbImm, StrhImm, Push, Pop, Stm, Ldm, Bx, Blx, B, Bl, Bkpt, Nop, Yield, Wfe, Wfi, Sev, Udf, Svc}
 
--- A shift or a rotation, by a number or by a register.
-abbrev pub IsShift : Instr → Type 0
-IsShift (LslImm rd rm imm) = Unit {0}
-IsShift (LsrImm rd rm imm) = Unit {0}
-IsShift (AsrImm rd rm imm) = Unit {0}
-IsShift (LslReg rdn rm) = Unit {0}
-IsShift (LsrReg rdn rm) = Unit {0}
-IsShift (AsrReg rdn rm) = Unit {0}
-IsShift (Ror rdn rm) = Unit {0}
-IsShift _ = ⊥
+pub data Group : Type 0 where
+  Shifting : Group  -- a shift or a rotation, by a number or by a register
+  Summing : Group  -- a sum or a difference, or the flags of one
+  Reckoning : Group  -- a word whose N and Z are set
+  Moving : Group  -- a word into a register or SP; the flags stay
+  Loading : Group  -- a load of one item
+  Storing : Group  -- a store of one item
+  MovingMany : Group  -- loads or stores of several words
+  Branching : Group  -- a branch, where its condition holds, or a call
+  Signalling : Group  -- a breakpoint, a hint, what is undefined for good, or a call for a service
+  Commonest : Group  -- in no group, but in the table itself
 
--- A sum or a difference, or the flags of one.
-abbrev pub IsSum : Instr → Type 0
-IsSum (SubReg rd rn rm) = Unit {0}
-IsSum (AddImm3 rd rn imm) = Unit {0}
-IsSum (SubImm3 rd rn imm) = Unit {0}
-IsSum (AddImm8 rd imm) = Unit {0}
-IsSum (SubImm8 rd imm) = Unit {0}
-IsSum (Adc rdn rm) = Unit {0}
-IsSum (Sbc rdn rm) = Unit {0}
-IsSum (Rsb rdn rm) = Unit {0}
-IsSum (Cmn rdn rm) = Unit {0}
-IsSum (CmpHigh rd rm) = Unit {0}
-IsSum _ = ⊥
-
--- A word whose N and Z are set.
-abbrev pub IsLogic : Instr → Type 0
-IsLogic (MovImm rd imm) = Unit {0}
-IsLogic (And rdn rm) = Unit {0}
-IsLogic (Eor rdn rm) = Unit {0}
-IsLogic (Tst rdn rm) = Unit {0}
-IsLogic (Orr rdn rm) = Unit {0}
-IsLogic (Mul rdn rm) = Unit {0}
-IsLogic (Bic rdn rm) = Unit {0}
-IsLogic (Mvn rdn rm) = Unit {0}
-IsLogic _ = ⊥
-
--- A word into a register or SP; the flags stay.
-abbrev pub IsMove : Instr → Type 0
-IsMove (AddHigh rd rm) = Unit {0}
-IsMove (MovHigh rd rm) = Unit {0}
-IsMove (Adr rd imm) = Unit {0}
-IsMove (AddSp rd imm) = Unit {0}
-IsMove (AddSpImm imm) = Unit {0}
-IsMove (SubSpImm imm) = Unit {0}
-IsMove (Sxth rd rm) = Unit {0}
-IsMove (Sxtb rd rm) = Unit {0}
-IsMove (Uxth rd rm) = Unit {0}
-IsMove (Uxtb rd rm) = Unit {0}
-IsMove (Rev rd rm) = Unit {0}
-IsMove (Rev16 rd rm) = Unit {0}
-IsMove (Revsh rd rm) = Unit {0}
-IsMove _ = ⊥
-
--- A load of one item.
-abbrev pub IsLoad : Instr → Type 0
-IsLoad (LdrPc rt imm) = Unit {0}
-IsLoad (Ldrsb rt rn rm) = Unit {0}
-IsLoad (LdrReg rt rn rm) = Unit {0}
-IsLoad (LdrhReg rt rn rm) = Unit {0}
-IsLoad (LdrbReg rt rn rm) = Unit {0}
-IsLoad (Ldrsh rt rn rm) = Unit {0}
-IsLoad (LdrImm rt rn imm) = Unit {0}
-IsLoad (LdrbImm rt rn imm) = Unit {0}
-IsLoad (LdrhImm rt rn imm) = Unit {0}
-IsLoad _ = ⊥
-
--- A store of one item.
-abbrev pub IsStore : Instr → Type 0
-IsStore (StrReg rt rn rm) = Unit {0}
-IsStore (StrhReg rt rn rm) = Unit {0}
-IsStore (StrbReg rt rn rm) = Unit {0}
-IsStore (StrImm rt rn imm) = Unit {0}
-IsStore (StrbImm rt rn imm) = Unit {0}
-IsStore (StrhImm rt rn imm) = Unit {0}
-IsStore _ = ⊥
-
--- Loads or stores of several words.
-abbrev pub IsMany : Instr → Type 0
-IsMany (Push list m) = Unit {0}
-IsMany (Pop list p) = Unit {0}
-IsMany (Stm rn list) = Unit {0}
-IsMany (Ldm rn list) = Unit {0}
-IsMany _ = ⊥
-
--- A branch, where its condition holds, or a call.
-abbrev pub IsBranch : Instr → Type 0
-IsBranch (Bx rm) = Unit {0}
-IsBranch (Blx rm) = Unit {0}
-IsBranch (B offset) = Unit {0}
-IsBranch (Bl offset) = Unit {0}
-IsBranch _ = ⊥
-
--- A breakpoint, a hint, what is undefined for good, or a call for a service.
-abbrev pub IsSignal : Instr → Type 0
-IsSignal (Bkpt imm) = Unit {0}
-IsSignal Nop = Unit {0}
-IsSignal Yield = Unit {0}
-IsSignal Wfe = Unit {0}
-IsSignal Wfi = Unit {0}
-IsSignal Sev = Unit {0}
-IsSignal (Udf imm) = Unit {0}
-IsSignal (Svc imm) = Unit {0}
-IsSignal _ = ⊥
+-- The group of an instruction.
+abbrev pub group_of : Instr → Group
+group_of (LslImm rd rm imm) = Shifting
+group_of (LsrImm rd rm imm) = Shifting
+group_of (AsrImm rd rm imm) = Shifting
+group_of (LslReg rdn rm) = Shifting
+group_of (LsrReg rdn rm) = Shifting
+group_of (AsrReg rdn rm) = Shifting
+group_of (Ror rdn rm) = Shifting
+group_of (SubReg rd rn rm) = Summing
+group_of (AddImm3 rd rn imm) = Summing
+group_of (SubImm3 rd rn imm) = Summing
+group_of (AddImm8 rd imm) = Summing
+group_of (SubImm8 rd imm) = Summing
+group_of (Adc rdn rm) = Summing
+group_of (Sbc rdn rm) = Summing
+group_of (Rsb rdn rm) = Summing
+group_of (Cmn rdn rm) = Summing
+group_of (CmpHigh rd rm) = Summing
+group_of (MovImm rd imm) = Reckoning
+group_of (And rdn rm) = Reckoning
+group_of (Eor rdn rm) = Reckoning
+group_of (Tst rdn rm) = Reckoning
+group_of (Orr rdn rm) = Reckoning
+group_of (Mul rdn rm) = Reckoning
+group_of (Bic rdn rm) = Reckoning
+group_of (Mvn rdn rm) = Reckoning
+group_of (AddHigh rd rm) = Moving
+group_of (MovHigh rd rm) = Moving
+group_of (Adr rd imm) = Moving
+group_of (AddSp rd imm) = Moving
+group_of (AddSpImm imm) = Moving
+group_of (SubSpImm imm) = Moving
+group_of (Sxth rd rm) = Moving
+group_of (Sxtb rd rm) = Moving
+group_of (Uxth rd rm) = Moving
+group_of (Uxtb rd rm) = Moving
+group_of (Rev rd rm) = Moving
+group_of (Rev16 rd rm) = Moving
+group_of (Revsh rd rm) = Moving
+group_of (LdrPc rt imm) = Loading
+group_of (Ldrsb rt rn rm) = Loading
+group_of (LdrReg rt rn rm) = Loading
+group_of (LdrhReg rt rn rm) = Loading
+group_of (LdrbReg rt rn rm) = Loading
+group_of (Ldrsh rt rn rm) = Loading
+group_of (LdrImm rt rn imm) = Loading
+group_of (LdrbImm rt rn imm) = Loading
+group_of (LdrhImm rt rn imm) = Loading
+group_of (StrReg rt rn rm) = Storing
+group_of (StrhReg rt rn rm) = Storing
+group_of (StrbReg rt rn rm) = Storing
+group_of (StrImm rt rn imm) = Storing
+group_of (StrbImm rt rn imm) = Storing
+group_of (StrhImm rt rn imm) = Storing
+group_of (Push list m) = MovingMany
+group_of (Pop list p) = MovingMany
+group_of (Stm rn list) = MovingMany
+group_of (Ldm rn list) = MovingMany
+group_of (Bx rm) = Branching
+group_of (Blx rm) = Branching
+group_of (B offset) = Branching
+group_of (Bl offset) = Branching
+group_of (Bkpt imm) = Signalling
+group_of Nop = Signalling
+group_of Yield = Signalling
+group_of Wfe = Signalling
+group_of Wfi = Signalling
+group_of Sev = Signalling
+group_of (Udf imm) = Signalling
+group_of (Svc imm) = Signalling
+group_of _ = Commonest

@@ -1,7 +1,7 @@
 -- The stack region, lent out of a memory.
 use Rattle.std.specs.Prelude.{ℕ, List, ◌++◌, take, drop, length}
 use Rattle.std.specs.Borrow.{Lends, MutBor, Fml, u32, Array}
-use Rattle.thumb_code.specs.Ram.{Ram}
+use Rattle.thumb_code.specs.Machine.{Ram}
 use Rattle.armv6m_machine.specs.contracts.mapped_memory.MappedMemory.{the_row}
 
 -- The stack region begins with these words. It has 1024.

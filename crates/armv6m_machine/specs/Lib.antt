@@ -1,11 +1,8 @@
 pub mod Answers
 pub mod Groups
-pub mod Turns
 pub mod Transfers
 pub mod Steps
-pub mod Slots
 pub mod Words
 pub mod Lending
 pub mod MachineLending
-pub mod RamLaws
 pub mod Contents

@@ -1,7 +1,7 @@
 -- Words by their addresses, as one who isn't the program reads and sets them.
 use Rattle.std.specs.Prelude.{ℕ, ◌%◌, Bool, true, ◌&&◌, ◌==◌, if◌then◌else◌, Option, Some, None}
 use Rattle.thumb_code.specs.Map.{in_flash, in_ram}
-use Rattle.thumb_code.specs.Ram.{Ram, ram_word, ram_store}
+use Rattle.thumb_code.specs.Machine.{Ram, ram_word, ram_store}
 
 -- A word of flash or RAM begins there.
 abbrev pub begins_word : ℕ → Bool

@@ -1,7 +1,6 @@
 //! Sums and shifts with the flags that they set, and conditions (ARM DDI 0419, A2.2.1 and A6.3).
 ghost use Rattle.std.specs.Prelude.{◌≡◌, ◌+◌, ◌*◌, ◌/◌, ◌%◌, ◌^◌, ◌<◌, ◌≤◌, nat_lt};
-ghost use Rattle.thumb_code.specs.Arithmetic.{sum_of, sum_flags, nz as flags_of_word, nzc as flags_of_shift, lsl as lsl_of, lsr as lsr_of, asr as asr_of, ror as ror_of, signed as extended, swapped as exchanged, shifted};
-ghost use Rattle.thumb_code.specs.Conditions.{holds as condition_holds};
+ghost use Rattle.thumb_code.specs.Arithmetic.{sum_of, sum_flags, nz as flags_of_word, nzc as flags_of_shift, lsl as lsl_of, lsr as lsr_of, asr as asr_of, ror as ror_of, signed as extended, swapped as exchanged, shifted, holds as condition_holds};
 
 /// A sum with a carry in, and its flags.
 #[inline(always)]

@@ -3,7 +3,7 @@ ghost use Rattle.std.specs.Prelude.{◌≡◌, ◌<◌, if◌then◌else◌};
 ghost use Rattle.thumb_code.specs.Table.{Fits};
 ghost use Rattle.thumb_code.specs.Effect.{effect};
 ghost use Rattle.thumb_code.specs.Step.{behind};
-ghost use Rattle.armv6m_machine.specs.Turns.{Does};
+ghost use Rattle.armv6m_machine.specs.Steps.{Does};
 
 use crate::faults::Turn;
 use crate::groups::{

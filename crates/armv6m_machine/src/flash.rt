@@ -1,7 +1,7 @@
 //! Flash: the bytes of an image, with what each even address of it holds read once.
 ghost use Rattle.std.specs.Prelude.{◌≡◌, ◌*◌, ◌/◌, ◌%◌, ◌-◌, ◌^◌, ◌<◌, ◌≤◌, vec_len, length, IfOk};
 ghost use Rattle.thumb_code.specs.Map.{flash_end, flash_byte, flash_half, flash_word};
-ghost use Rattle.armv6m_machine.specs.Slots.{IsSlot, AreSlots};
+ghost use Rattle.armv6m_machine.specs.Steps.{IsSlot, AreSlots};
 
 use std::alloc::Global;
 use std::marker::Model;
@@ -19,7 +19,7 @@ pub struct Flash {
 
 impl Model for Flash {
     ghost use Rattle.std.specs.Prelude.{List, ℕ};
-    ghost use Rattle.armv6m_machine.specs.Slots.{AreSlots};
+    ghost use Rattle.armv6m_machine.specs.Steps.{AreSlots};
 
     ghost Value = { List ℕ };
 

@@ -1,9 +1,9 @@
 //! The rows of the table that are in groups, a function for each group.
-ghost use Rattle.std.specs.Prelude.{◌<◌};
+ghost use Rattle.std.specs.Prelude.{◌≡◌, ◌<◌};
 ghost use Rattle.thumb_code.specs.Table.{Fits};
 ghost use Rattle.thumb_code.specs.Effect.{effect};
-ghost use Rattle.armv6m_machine.specs.Turns.{Does};
-ghost use Rattle.armv6m_machine.specs.Groups.{IsShift, IsSum, IsLogic, IsMove, IsLoad, IsStore, IsMany, IsBranch, IsSignal};
+ghost use Rattle.armv6m_machine.specs.Steps.{Does};
+ghost use Rattle.armv6m_machine.specs.Groups.{group_of, Shifting, Summing, Reckoning, Moving, Loading, Storing, MovingMany, Branching, Signalling};
 
 use crate::arithmetic::{
     asr, lsl, lsr, reversed, reversed_in_halves, signed_byte, signed_half, swapped,
@@ -25,7 +25,7 @@ use thumb_code::{Instr, Registers};
 #[inline(always)]
 pub fn execute_shift<M: Memory>(instr: Instr, next: u32, s: &mut Registers, m: &M) -> Turn
     requires fits { Fits instr }
-    requires group { IsShift instr }
+    requires group { group_of instr ≡ Shifting }
     ensures row { Does M.memory m.now (effect next s.old instr) result s.old s.new m.now }
     ensures flags { s.old.flags < 16 → s.new.flags < 16 }
 {
@@ -57,7 +57,7 @@ pub fn execute_shift<M: Memory>(instr: Instr, next: u32, s: &mut Registers, m: &
 #[inline(always)]
 pub fn execute_sum<M: Memory>(instr: Instr, next: u32, s: &mut Registers, m: &M) -> Turn
     requires fits { Fits instr }
-    requires group { IsSum instr }
+    requires group { group_of instr ≡ Summing }
     ensures row { Does M.memory m.now (effect next s.old instr) result s.old s.new m.now }
     ensures flags { s.old.flags < 16 → s.new.flags < 16 }
 {
@@ -80,7 +80,7 @@ pub fn execute_sum<M: Memory>(instr: Instr, next: u32, s: &mut Registers, m: &M)
 #[inline(always)]
 pub fn execute_logic<M: Memory>(instr: Instr, next: u32, s: &mut Registers, m: &M) -> Turn
     requires fits { Fits instr }
-    requires group { IsLogic instr }
+    requires group { group_of instr ≡ Reckoning }
     ensures row { Does M.memory m.now (effect next s.old instr) result s.old s.new m.now }
     ensures flags { s.old.flags < 16 → s.new.flags < 16 }
 {
@@ -101,7 +101,7 @@ pub fn execute_logic<M: Memory>(instr: Instr, next: u32, s: &mut Registers, m: &
 #[inline(always)]
 pub fn execute_move<M: Memory>(instr: Instr, next: u32, s: &mut Registers, m: &M) -> Turn
     requires fits { Fits instr }
-    requires group { IsMove instr }
+    requires group { group_of instr ≡ Moving }
     ensures row { Does M.memory m.now (effect next s.old instr) result s.old s.new m.now }
     ensures flags { s.old.flags < 16 → s.new.flags < 16 }
 {
@@ -127,7 +127,7 @@ pub fn execute_move<M: Memory>(instr: Instr, next: u32, s: &mut Registers, m: &M
 #[inline(always)]
 pub fn execute_load<M: Memory>(instr: Instr, next: u32, s: &mut Registers, m: &mut M) -> Turn
     requires fits { Fits instr }
-    requires group { IsLoad instr }
+    requires group { group_of instr ≡ Loading }
     ensures row { Does M.memory m.old (effect next s.old instr) result s.old s.new m.new }
     ensures flags { s.old.flags < 16 → s.new.flags < 16 }
 {
@@ -149,7 +149,7 @@ pub fn execute_load<M: Memory>(instr: Instr, next: u32, s: &mut Registers, m: &m
 #[inline(always)]
 pub fn execute_store<M: Memory>(instr: Instr, next: u32, s: &mut Registers, m: &mut M) -> Turn
     requires fits { Fits instr }
-    requires group { IsStore instr }
+    requires group { group_of instr ≡ Storing }
     ensures row { Does M.memory m.old (effect next s.old instr) result s.old s.new m.new }
     ensures flags { s.old.flags < 16 → s.new.flags < 16 }
 {
@@ -168,7 +168,7 @@ pub fn execute_store<M: Memory>(instr: Instr, next: u32, s: &mut Registers, m: &
 #[inline(always)]
 pub fn execute_many<M: Memory>(instr: Instr, next: u32, s: &mut Registers, m: &mut M) -> Turn
     requires fits { Fits instr }
-    requires group { IsMany instr }
+    requires group { group_of instr ≡ MovingMany }
     ensures row { Does M.memory m.old (effect next s.old instr) result s.old s.new m.new }
     ensures flags { s.old.flags < 16 → s.new.flags < 16 }
 {
@@ -187,7 +187,7 @@ pub fn execute_many<M: Memory>(instr: Instr, next: u32, s: &mut Registers, m: &m
 #[inline(always)]
 pub fn execute_branch<M: Memory>(instr: Instr, next: u32, s: &mut Registers, m: &M) -> Turn
     requires fits { Fits instr }
-    requires group { IsBranch instr }
+    requires group { group_of instr ≡ Branching }
     ensures row { Does M.memory m.now (effect next s.old instr) result s.old s.new m.now }
     ensures flags { s.old.flags < 16 → s.new.flags < 16 }
 {
@@ -204,7 +204,7 @@ pub fn execute_branch<M: Memory>(instr: Instr, next: u32, s: &mut Registers, m: 
 #[inline(always)]
 pub fn execute_signal<M: Memory>(instr: Instr, next: u32, s: &mut Registers, m: &M) -> Turn
     requires fits { Fits instr }
-    requires group { IsSignal instr }
+    requires group { group_of instr ≡ Signalling }
     ensures row { Does M.memory m.now (effect next s.old instr) result s.old s.new m.now }
     ensures flags { s.old.flags < 16 → s.new.flags < 16 }
 {

@@ -1,11 +1,10 @@
 //! Flash and one RAM, by the map of addresses.
 ghost use Rattle.std.specs.Prelude.{◌≡◌, ◌+◌, ◌-◌, ◌*◌, ◌/◌, ◌%◌, ◌^◌, ◌<◌, ◌≤◌, vec_len, length, ◌==◌, refl, None, true, false, IfOk, replicate};
 ghost use Rattle.thumb_code.specs.Map.{arena_words, flash_end, flash_half, flash_word, is_base, access_fault, in_ram, in_flash, sp_in_range};
-ghost use Rattle.thumb_code.specs.Ram.{Ram, IsWhole, ram_memory, ram_word, ram_store};
-ghost use Rattle.thumb_code.specs.Machine.{reset};
+ghost use Rattle.thumb_code.specs.Machine.{reset, Ram, IsWhole, ram_memory, ram_word, ram_store};
 ghost use Rattle.armv6m_machine.specs.Answers.{IsSize, IsHeld};
-ghost use Rattle.armv6m_machine.specs.Slots.{IsSlot};
-ghost use Rattle.armv6m_machine.specs.RamLaws.{store_keeps_base};
+ghost use Rattle.armv6m_machine.specs.Steps.{IsSlot};
+ghost use Rattle.thumb_code.proofs.Laws.{store_keeps_base};
 ghost use Rattle.std.proofs.Common.{ap};
 
 use crate::faults::Fault;

@@ -2,11 +2,10 @@
 //! accesses, then a fault of its own, and changes nothing before.
 ghost use Rattle.std.specs.Prelude.{◌≡◌, ◌+◌, ◌*◌, ◌%◌, ◌^◌, ◌<◌, ◌≤◌, ◌⊎◌, if◌then◌else◌};
 ghost use Rattle.thumb_code.specs.RegisterFile.{word, low as low_of};
-ghost use Rattle.thumb_code.specs.Arithmetic.{nz as flags_of_word, sum_flags, lsl as lsl_of, lsr as lsr_of, asr as asr_of, ror as ror_of, signed as extended};
-ghost use Rattle.thumb_code.specs.Conditions.{holds as condition_holds};
+ghost use Rattle.thumb_code.specs.Arithmetic.{nz as flags_of_word, sum_flags, lsl as lsl_of, lsr as lsr_of, asr as asr_of, ror as ror_of, signed as extended, holds as condition_holds};
 ghost use Rattle.thumb_code.specs.Forms.{go as going, puts as putting, puts_with as writing, flags_are as flagging, adds as adding, subs as subtracting, compares as comparing, logic as reckoning, shifts as shifting, moves as moving, jumps as jumping, target as target_of, ends, Stops, Asks, unsigned};
 ghost use Rattle.armv6m_machine.specs.Answers.{IsSize, number_of};
-ghost use Rattle.armv6m_machine.specs.Turns.{Does};
+ghost use Rattle.armv6m_machine.specs.Steps.{Does};
 ghost use Rattle.armv6m_machine.specs.Transfers.{load_from, store_to};
 
 use crate::arithmetic::{add_with_carry, asr, holds, lsl, lsr, nz, ror, signed_byte, signed_half};

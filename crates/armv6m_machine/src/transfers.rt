@@ -7,7 +7,7 @@ ghost use Rattle.thumb_code.specs.Forms.{word_accesses, words_to};
 ghost use Rattle.thumb_code.specs.declared.instructions.Instr.TheVariants.{Ldm, Stm, Push, Pop};
 ghost use Rattle.armv6m_machine.specs.Answers.{IsCheck};
 ghost use Rattle.armv6m_machine.specs.Transfers.{loaded};
-ghost use Rattle.armv6m_machine.specs.Turns.{Does};
+ghost use Rattle.armv6m_machine.specs.Steps.{Does};
 
 use crate::faults::{Fault, Turn};
 use crate::memory::Memory;

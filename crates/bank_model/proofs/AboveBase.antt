@@ -8,10 +8,15 @@ use Rattle.std.specs.Option.{option_or}
 use Rattle.thumb_code.specs.Memory.{Executed, Done, Asked, Stopped, or_else, first_fault, load_all, store_all, finished, execute}
 use Rattle.thumb_code.specs.Faults.{above_base, out_of_map, unaligned}
 use Rattle.thumb_code.specs.Map.{stack_at, arena_at, globals_at, ram_end, access_fault, merged, in_ram, is_base}
-use Rattle.thumb_code.specs.Ram.{Ram, ram_memory, ram_store}
 use Rattle.thumb_code.specs.Step.{Fetched, Found, Missed, fetched, stepped_at, ran}
-use Rattle.thumb_code.specs.Machine.{State, step}
-use Rattle.bank_model.specs.Standing.{IsBase, KeepsAbove, StepKeepsAbove}
+use Rattle.thumb_code.specs.Machine.{State, step, Ram, ram_memory, ram_store}
+use Rattle.bank_model.specs.Standing.{KeepsAbove, StepKeepsAbove}
+
+-- What the test of a base says: it is a multiple of 4 from the start of the stack region to its end.
+pub record IsBase (base : ℕ) : Type 0 where
+  pub aligned : base % 4 ≡ 0
+  pub low : stack_at ≤ base
+  pub high : base ≤ ram_end
 
 -- An access that is no fault is below the base, where it is in the stack region.
 abbrev fault_by : Bool → Bool → Bool → Option ℕ
@@ -87,27 +92,26 @@ module _ (m : Ram) (b : IsBase m.base) where
       finish_above (store_all ram_memory (load_all ram_memory m e.loads).1 e.stores) e.sp (e.after (load_all ram_memory m e.loads).0)
       (let l = loads_above e.loads m in rw l (stores_above e.stores m none (record { flash = refl; base = refl; size = refl; above = refl }))))))
 
-placed_keeps : (m : Ram) (b : IsBase m.base) (at : ℕ) (x : Executed Ram) → ExecutedKeeps m b x → StepKeepsAbove m (stepped_at at x)
-placed_keeps m b at (Done r t) h = (h, b)
-placed_keeps m b at (Asked n r t) h = (h, b)
-placed_keeps m b at (Stopped k) h = tt
-
-fetched_keeps : (m : Ram) (r : Registers) (b : IsBase m.base) (x : Fetched) → StepKeepsAbove m (ran (execute ram_memory m) r x)
-fetched_keeps m r b (Found i next) = placed_keeps m b r.pc (execute ram_memory m (effect next r i)) (execute_above m b (effect next r i))
-fetched_keeps m r b (Missed k at) = tt
-
 is_base_good : (base : ℕ) (t1 t2 t3 : Bool) → (base % 4 == 0) ≡ t1 → nat_lt base stack_at ≡ t2 → nat_lt ram_end base ≡ t3 → is_base base ≡ true → IsBase base
 is_base_good base true false false e1 e2 e3 h = record { aligned = grind (arith, nat_tests); low = grind (arith, nat_tests); high = grind (arith, nat_tests) }
 is_base_good base true false true e1 e2 e3 h = let k : false ≡ true = rw (e1, e2, e3) at h in absurd (cc)
 is_base_good base true true t3 e1 e2 e3 h = let k : false ≡ true = rw (e1, e2) at h in absurd (cc)
 is_base_good base false t2 t3 e1 e2 e3 h = let k : false ≡ true = rw e1 at h in absurd (cc)
 
--- What the test of a base says.
 pub base_good : (base : ℕ) → is_base base ≡ true → IsBase base
 base_good base h = is_base_good base _ _ _ refl refl refl h
 
 pub good_base : (base : ℕ) → IsBase base → is_base base ≡ true
 good_base base b = let a : (base % 4 == 0) ≡ true = grind (arith, nat_tests, b.aligned) in let l : nat_lt base stack_at ≡ false = grind (arith, nat_tests, b.low) in let h : nat_lt ram_end base ≡ false = grind (arith, nat_tests, b.high) in rw (a, l, h) refl
+
+placed_keeps : (m : Ram) (b : IsBase m.base) (at : ℕ) (x : Executed Ram) → ExecutedKeeps m b x → StepKeepsAbove m (stepped_at at x)
+placed_keeps m b at (Done r t) h = (h, good_base m.base b)
+placed_keeps m b at (Asked n r t) h = (h, good_base m.base b)
+placed_keeps m b at (Stopped k) h = tt
+
+fetched_keeps : (m : Ram) (r : Registers) (b : IsBase m.base) (x : Fetched) → StepKeepsAbove m (ran (execute ram_memory m) r x)
+fetched_keeps m r b (Found i next) = placed_keeps m b r.pc (execute ram_memory m (effect next r i)) (execute_above m b (effect next r i))
+fetched_keeps m r b (Missed k at) = tt
 
 at_base : (m : Ram) (r : Registers) (c : Bool) → is_base m.base ≡ c → StepKeepsAbove m (ran (execute ram_memory m) r (fetched m.flash m.base r.pc))
 at_base m r true e = fetched_keeps m r (base_good m.base e) (fetched m.flash m.base r.pc)

@@ -4,10 +4,10 @@ use Rattle.std.proofs.lemmas.Bool.Decides.{nat_tests}
 use Rattle.thumb_code.specs.Faults.{unaligned, out_of_map, above_base}
 use Rattle.thumb_code.specs.Forms.{Access}
 use Rattle.thumb_code.specs.Map.{globals_at, arena_at, stack_at, ram_end, in_ram, place, merged, changed, word_in, access_fault, sp_in_range}
-use Rattle.thumb_code.specs.Ram.{Ram, ram_load, ram_store, ram_memory}
+use Rattle.thumb_code.specs.Machine.{Ram, ram_load, ram_store, ram_memory}
 use Rattle.thumb_code.proofs.Laws.{Refines}
 use Rattle.bank_model.specs.Bank.{Bank, bank_sp, is_own, lowered, bank_load, bank_store, bank_move, bank_memory}
-use Rattle.bank_model.specs.Shows.{Shows, IsPart}
+use Rattle.bank_model.specs.Standing.{Shows, IsPart}
 use Rattle.bank_model.proofs.Parts.{part_set_out, part_drop, part_cons, part_changed}
 
 lt_true : (a b : ℕ) → nat_lt a b ≡ true → a < b

@@ -4,14 +4,12 @@ use Rattle.thumb_code.specs.declared.instructions.Instr.{Instr}
 use Rattle.thumb_code.specs.declared.register_file.Registers.{Registers}
 use Rattle.thumb_code.specs.Effect.{effect}
 use Rattle.thumb_code.specs.Memory.{execute, execute_moving}
-use Rattle.thumb_code.specs.Ram.{Ram, ram_memory}
 use Rattle.thumb_code.specs.Step.{fetched}
-use Rattle.thumb_code.specs.Machine.{State}
-use Rattle.thumb_code.specs.Refines.{DoesTheSame, RunsTheSame}
+use Rattle.thumb_code.specs.Machine.{State, Ram, ram_memory}
+use Rattle.thumb_code.specs.Run.{DoesTheSame, RunsTheSame}
 use Rattle.thumb_code.proofs.Laws.{refined, runs_follow, aligned_sp}
 use Rattle.bank_model.specs.Bank.{Bank, bank_memory, bank_move}
-use Rattle.bank_model.specs.Shows.{Shows}
-use Rattle.bank_model.specs.Steps.{ram_steps, bank_steps}
+use Rattle.bank_model.specs.Standing.{ram_steps, bank_steps, Shows}
 use Rattle.bank_model.proofs.BankRefines.{bank_refines}
 use Rattle.bank_model.proofs.RamSteps.{steps_run}
 

@@ -7,7 +7,7 @@ use Rattle.thumb_code.specs.Effect.{Access, Effect, Outcome, Goes, Asks, Stops}
 use Rattle.thumb_code.specs.Map.{globals_at, arena_at, stack_at}
 use Rattle.thumb_code.specs.Memory.{Executed, Done, Asked, Stopped, first_fault, load_all, store_all, or_else, finished, after_move, accessed}
 use Rattle.bank_model.specs.Bank.{Bank, bank_sp, is_own, bank_load, bank_store, bank_move, bank_memory}
-use Rattle.bank_model.specs.Watched.{is_plain}
+use Rattle.bank_model.specs.Runs.{is_plain}
 
 abbrev pub value : Bank → Access → ℕ
 value b a = (bank_load b [] a).0

@@ -13,7 +13,7 @@ use Rattle.board_world.proofs.Laws.{over_stays, run_over, run_sum, starts, lifts
 use Rattle.board_world.specs.Simulation.{one, always}
 use Rattle.bank_model.specs.Fibers.{Fiber, Shared, shared_at_reset}
 use Rattle.bank_model.specs.BoardMachine.{memory_of, fiber_turn, fibers, bank_run}
-use Rattle.bank_model.specs.Watched.{goes_steady, unsteady, watched_turn, watched, watched_run}
+use Rattle.bank_model.specs.Runs.{goes_steady, unsteady, watched_turn, watched, watched_run}
 use Rattle.bank_model.proofs.FreeWords.{apart, free_simulation}
 
 -- The board is the same whatever the free words are.

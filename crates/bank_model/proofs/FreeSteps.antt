@@ -13,7 +13,7 @@ use Rattle.thumb_code.specs.Memory.{after_move, accessed, execute_moving, first_
 use Rattle.thumb_code.proofs.Laws.{aligned_sp}
 use Rattle.bank_model.specs.Bank.{Bank, bank_sp, bank_move, bank_memory}
 use Rattle.bank_model.specs.Standing.{IsInside}
-use Rattle.bank_model.specs.Watched.{is_plain, is_push, is_steady}
+use Rattle.bank_model.specs.Runs.{is_plain, is_push, is_steady}
 use Rattle.bank_model.proofs.FreeLoads.{Steady, Went, Asked_for, Failed, with_free, outcome, ends, unless, value, stored, up_free, move_nowhere, stores_size}
 use Rattle.bank_model.proofs.FreePush.{push_free, push_outcome, push_down, length_pushed}
 

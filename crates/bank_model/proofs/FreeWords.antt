@@ -2,7 +2,7 @@
 use Rattle.std.proofs.Common.{◌≡◌, ℕ, ◌+◌, ◌*◌, ◌%◌, ◌^◌, ◌==◌, nat_lt, ℤ, Bool, true, false, List, length, refl, sym, ap, subst, arith, if◌then◌else◌}
 use Rattle.thumb_code.specs.declared.register_file.Registers.{Registers}
 use Rattle.thumb_code.specs.RegisterFile.{is_odd}
-use Rattle.thumb_code.specs.Refines.{over_moving}
+use Rattle.thumb_code.specs.Run.{over_moving}
 use Rattle.thumb_code.specs.Map.{is_base}
 use Rattle.thumb_code.specs.Machine.{base_of}
 use Rattle.thumb_code.specs.Step.{Fetched, Found, Missed, fetched, ran, stepped_at}
@@ -13,14 +13,13 @@ use Rattle.board_world.specs.Transcript.{decimal_text}
 use Rattle.board_world.specs.Kinds.{Question, Turn, Goes, Takes, Pauses, Waits, Spawns, Listens, RaisesNow, Ends, Faults, Writes, Raises, Plots, Displays, Sets, Sends, Time, Value, Pressed}
 use Rattle.board_world.specs.Simulation.{Ties, ties, Going, Matches, Follows, Simulation, one, always}
 use Rattle.bank_model.specs.Bank.{Bank, bank_move, bank_memory}
-use Rattle.bank_model.specs.Division.{quotient, remainder}
 use Rattle.bank_model.specs.Fibers.{Fiber, Shared, begins, begins_on, begins_again, begins_above}
 use Rattle.bank_model.specs.Texts.{is_text, text_at, glyph_at}
 use Rattle.bank_model.specs.Arrays.{behind_words, is_array, is_full, room_of, grown_room, stored, moved}
-use Rattle.bank_model.specs.AllServices.{service, word_argument, argument, asked_event, asked_listener, allocates, pushes, with_text, tells, asks, answered, answered_word, number_word}
+use Rattle.bank_model.specs.AllServices.{service, word_argument, argument, asked_event, asked_listener, allocates, pushes, with_text, tells, asks, answered, answered_word, number_word, quotient, remainder}
 use Rattle.bank_model.specs.BoardMachine.{memory_of, fiber_of, shared_in, turn_of}
 use Rattle.bank_model.specs.Standing.{IsInside}
-use Rattle.bank_model.specs.Watched.{goes_steady, watched_turn, watched}
+use Rattle.bank_model.specs.Runs.{goes_steady, watched_turn, watched}
 use Rattle.bank_model.proofs.AboveBase.{base_good}
 use Rattle.bank_model.proofs.FreeLoads.{Steady, Went, Asked_for, Failed, with_free}
 use Rattle.bank_model.proofs.FreeSteps.{Holds, HoldsAfter, steady_comes}

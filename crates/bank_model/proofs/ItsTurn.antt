@@ -2,17 +2,14 @@
 use Rattle.std.proofs.Common.{◌≡◌, ℕ, zero, suc, List, ◌++◌, length, true, refl, sym, ap, ◌∙◌, arith}
 use Rattle.thumb_code.specs.declared.register_file.Registers.{Registers}
 use Rattle.thumb_code.specs.Map.{is_base}
-use Rattle.thumb_code.specs.Ram.{Ram}
 use Rattle.thumb_code.specs.Step.{Stepped, On, Served, Faulted}
-use Rattle.thumb_code.specs.Machine.{State, step}
-use Rattle.bank_model.specs.Bank.{Bank}
-use Rattle.bank_model.specs.Shows.{AgreesWithBank}
-use Rattle.bank_model.specs.Steps.{bank_step, FollowsStep}
+use Rattle.thumb_code.specs.Machine.{State, step, Ram}
+use Rattle.bank_model.specs.Bank.{Bank, bank_step}
 use Rattle.bank_model.specs.BoardMachine.{turn_of}
-use Rattle.bank_model.specs.Standing.{words_in, IsBase, IsInside, Stands, bank_on, turn_from, StepKeepsAbove, StandsAfter, IsItsTurn}
+use Rattle.bank_model.specs.Standing.{words_in, IsInside, Stands, turn_from, StepKeepsAbove, StandsAfter, IsItsTurn, FollowsStep, AgreesWithBank}
 use Rattle.bank_model.proofs.OneStep.{step_follows}
-use Rattle.bank_model.proofs.AboveBase.{base_good, good_base, step_keeps}
-use Rattle.bank_model.proofs.OnStack.{bank_shows, shown_bank, shown_inside}
+use Rattle.bank_model.proofs.AboveBase.{IsBase, base_good, step_keeps}
+use Rattle.bank_model.proofs.OnStack.{bank_on, bank_shows, shown_bank, shown_inside}
 
 -- Who stands is inside, where the base is one.
 stands_inside : (s : State) → Stands s → IsBase s.memory.base → IsInside s.registers.sp s.memory.base
@@ -33,7 +30,7 @@ stands_agrees image s e f = record {
 module _ (image : List ℕ) (used : ℕ) (s : State) where
   shown : (r : Registers) (u : Ram) (v : Bank) → StepKeepsAbove s.memory (On r u) → AgreesWithBank image r.sp u v → (v ≡ bank_on u r.sp) × IsInside r.sp u.base
   shown r u v k a =
-      let base : is_base u.base ≡ true = ap is_base k.0.base ∙ good_base s.memory.base k.1 in
+      let base : is_base u.base ≡ true = ap is_base k.0.base ∙ k.1 in
       let h = a.shows base in
       (shown_bank u r.sp v h, shown_inside u r.sp v h)
 

@@ -2,10 +2,13 @@
 use Rattle.std.proofs.Common.{◌≡◌, ℕ, ◌+◌, ◌*◌, ◌-◌, ◌/◌, ◌≤◌, List, length, take, drop, refl, sym, ap, ◌∙◌, subst, arith, length-take, length-drop}
 use Rattle.std.proofs.lemmas.List.{drop-drop, ext_get_or, get_or-take, get_or-drop}
 use Rattle.thumb_code.specs.Map.{stack_at}
-use Rattle.thumb_code.specs.Ram.{Ram}
+use Rattle.thumb_code.specs.Machine.{Ram}
 use Rattle.bank_model.specs.Bank.{Bank}
-use Rattle.bank_model.specs.Shows.{IsPart, Shows}
-use Rattle.bank_model.specs.Standing.{words_in, SameFrom, IsInside, bank_on}
+use Rattle.bank_model.specs.Standing.{words_in, SameFrom, IsInside, IsPart, Shows}
+
+-- The bank of who stands on RAM with this SP.
+abbrev pub bank_on : Ram → ℕ → Bank
+bank_on m sp = record { flash = m.flash; globals = m.globals; arena = m.arena; base = m.base; words = words_in m.stack sp m.base }
 
 -- Two regions that are the same from an address on have the same words above it.
 pub same_above : (at sp : ℕ) (old new : List ℕ) → SameFrom at old new → at ≤ sp → SameFrom sp old new

@@ -6,7 +6,7 @@ use Rattle.board_world.specs.World.{tick, acted, idled}
 use Rattle.thumb_code.specs.Machine.{main_of}
 use Rattle.bank_model.specs.Fibers.{Fiber, Shared, begins, shared_at_reset}
 use Rattle.bank_model.specs.BoardMachine.{fibers, fiber_turn, bank_start}
-use Rattle.bank_model.specs.SingleFiber.{single, ended}
+use Rattle.bank_model.specs.Runs.{single, ended}
 
 module _ (flash : List ℕ) (until : ℕ) (seen : List Observation) (f : Fiber) (s : Shared) where
   by_turn : (x y : Turn Fiber Shared) → x ≡ y

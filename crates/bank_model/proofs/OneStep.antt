@@ -4,15 +4,12 @@ use Rattle.thumb_code.specs.declared.register_file.Registers.{Registers}
 use Rattle.thumb_code.specs.Effect.{effect}
 use Rattle.thumb_code.specs.Memory.{Executed, Done, Asked, Stopped, execute}
 use Rattle.thumb_code.specs.Map.{arena_words, is_base}
-use Rattle.thumb_code.specs.Ram.{Ram, ram_memory}
-use Rattle.thumb_code.specs.Refines.{DoesTheSame, over_moving}
+use Rattle.thumb_code.specs.Run.{DoesTheSame, over_moving}
 use Rattle.thumb_code.specs.Step.{Fetched, Found, Missed, fetched, stepped_at, ran}
-use Rattle.thumb_code.specs.Machine.{State, step, reset, base_of}
-use Rattle.bank_model.specs.Bank.{Bank, bank_memory, bank_move}
-use Rattle.bank_model.specs.Shows.{Shows, AgreesWithBank}
-use Rattle.bank_model.specs.Steps.{bank_step, FollowsStep}
-use Rattle.bank_model.specs.Standing.{IsBase}
-use Rattle.bank_model.proofs.AboveBase.{base_good}
+use Rattle.thumb_code.specs.Machine.{State, step, reset, base_of, Ram, ram_memory}
+use Rattle.bank_model.specs.Bank.{Bank, bank_memory, bank_move, bank_step}
+use Rattle.bank_model.specs.Standing.{FollowsStep, Shows, AgreesWithBank}
+use Rattle.bank_model.proofs.AboveBase.{IsBase, base_good}
 use Rattle.bank_model.proofs.RamSteps.{Leaves, execute_leaves}
 use Rattle.bank_model.proofs.FollowsRam.{bank_follows_instruction}
 

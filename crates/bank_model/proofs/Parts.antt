@@ -3,7 +3,7 @@ use Rattle.std.proofs.Common.{zero, suc, ◌≡◌, ◌≢◌, ℕ, ◌+◌, ◌
 use Rattle.std.proofs.lemmas.List.{get_or-set_other, get_or-drop}
 use Rattle.std.proofs.lemmas.Grind.{get_or-set_at}
 use Rattle.std.proofs.lemmas.Bool.Decides.{nat_tests}
-use Rattle.bank_model.specs.Shows.{IsPart}
+use Rattle.bank_model.specs.Standing.{IsPart}
 
 pub same_or_not : (P : Type 0) (i j : ℕ) → (i ≡ j → P) → (i ≢ j → P) → P
 same_or_not P i j f g = elim (nat_eq i j) as (λ b. nat_eq i j ≡ b → P) [

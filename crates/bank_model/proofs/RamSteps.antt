@@ -5,12 +5,11 @@ use Rattle.thumb_code.specs.Forms.{Access, Effect, Outcome, Goes, Asks, Stops}
 use Rattle.thumb_code.specs.Effect.{effect}
 use Rattle.thumb_code.specs.Map.{arena_at, stack_at}
 use Rattle.thumb_code.specs.Memory.{Executed, Done, Asked, Stopped, or_else, first_fault, load_all, store_all, finished, execute}
-use Rattle.thumb_code.specs.Ram.{Ram, ram_memory, ram_store}
 use Rattle.thumb_code.specs.Step.{Fetched, Found, Missed, fetched, ran, stepped_at}
-use Rattle.thumb_code.specs.Machine.{State}
+use Rattle.thumb_code.specs.Machine.{State, Ram, ram_memory, ram_store}
 use Rattle.thumb_code.specs.Run.{runs, from_step}
 use Rattle.thumb_code.proofs.Laws.{over}
-use Rattle.bank_model.specs.Steps.{ram_steps}
+use Rattle.bank_model.specs.Standing.{ram_steps}
 
 -- Flash and the base are the same.
 pub record SameMap (m t : Ram) : Type 0 where

@@ -13,11 +13,10 @@ use Rattle.board_world.specs.Waiting.{least, none, how_many, held_by}
 use Rattle.board_world.specs.Activities.{Activity, World, handlers}
 use Rattle.board_world.specs.World.{acted, idle_while, moved, clock_moves, idle_bound, lacks_seat, blocks, ends, ends_with, stepped}
 use Rattle.board_world.proofs.Laws.{if_keeps, used_answer, used_arrive}
-use Rattle.bank_model.specs.Bank.{Bank}
+use Rattle.bank_model.specs.Bank.{Bank, bank_step}
 use Rattle.bank_model.specs.Fibers.{Fiber, Shared}
 use Rattle.bank_model.specs.Texts.{is_text, text_at, glyph_at}
 use Rattle.bank_model.specs.Arrays.{is_array, is_full}
-use Rattle.bank_model.specs.Steps.{bank_step}
 use Rattle.bank_model.specs.AllServices.{service, word_argument, pushes, with_text, tells, answered}
 use Rattle.bank_model.specs.BoardMachine.{memory_of, fiber_of, shared_in, turn_of, fiber_turn, fibers, bank_run}
 

@@ -1,6 +1,7 @@
 -- All services, for which a fiber asks by SVC with their number.
-use Rattle.std.specs.Prelude.{ℕ, ◌+◌, ◌-◌, ◌%◌, ◌^◌, ◌==◌, nat_lt, ℤ, pos, negsuc, List, if◌then◌else◌}
-use Rattle.std.specs.Int.{cast_signed, cast_unsigned, w32}
+use Rattle.std.specs.Prelude.{ℕ, ◌+◌, ◌-◌, ◌%◌, ◌^◌, ◌==◌, nat_lt, ℤ, pos, negsuc, List, if◌then◌else◌, int_rem}
+use Rattle.std.specs.Int.{cast_signed, cast_unsigned, int_wrapping_div, w32}
+use Rattle.std.specs.Ordering.{int_eq}
 use Rattle.board_services.specs.declared.numbers.TheConstants.{END, PANIC, PAUSE, WAIT, SPAWN, LISTEN, RAISE, TIME, EVENT_VALUE, BUTTON, PLOT, SHOW, WRITE_NUMBER, WRITE_TEXT, WRITE_PIN, SEND, TEXT_GLYPH, NUMBER_GLYPH, ALLOCATE, PUSH, DIVIDE, REMAINDER, LISTEN_IN_MODE, RAISE_NOW}
 use Rattle.thumb_code.specs.Faults.{bad_service, not_thumb}
 use Rattle.thumb_code.specs.RegisterFile.{low, put_low, is_odd}
@@ -11,7 +12,6 @@ use Rattle.board_world.specs.Panics.{null_panic}
 use Rattle.board_world.specs.Observations.{ByteList}
 use Rattle.board_world.specs.Transcript.{decimal_text}
 use Rattle.board_world.specs.Kinds.{Question, Raises, Plots, Displays, Writes, Sets, Sends, Time, Value, Pressed, Turn, Goes, Asks, Takes, Pauses, Waits, Spawns, Listens, RaisesNow, Ends, Panics, Faults}
-use Rattle.bank_model.specs.Division.{quotient, remainder}
 use Rattle.bank_model.specs.Fibers.{Fiber, Shared, begins_again, begins_above}
 use Rattle.bank_model.specs.Texts.{is_text, text_at, glyph_at}
 use Rattle.bank_model.specs.Arrays.{behind_words, is_array, is_full, room_of, grown_room, stored, moved}
@@ -53,6 +53,14 @@ asks question f s = Asks question (λ answer. (answered_word f (number_word answ
 -- An address of code has bit 0 set, or else it is the fault NotThumb.
 abbrev pub with_code : ℕ → ℕ → Turn Fiber Shared → Turn Fiber Shared
 with_code at code turn = if is_odd code then turn else Faults not_thumb at
+
+-- The quotient, truncated toward zero and then through ToInt32 (ECMA-262, 6.1.6.1.5 and 7.1.6): so -2^31 / -1 is -2^31. Where the divisor is 0 it is 0.
+abbrev pub quotient : ℤ → ℤ → ℤ
+quotient dividend divisor = if int_eq divisor (pos 0) then pos 0 else int_wrapping_div w32 dividend divisor
+
+-- The remainder, which has the dividend's sign (ECMA-262, 6.1.6.1.6). Where the divisor is 0 it is 0.
+abbrev pub remainder : ℤ → ℤ → ℤ
+remainder dividend divisor = if int_eq divisor (pos 0) then pos 0 else int_rem dividend divisor
 
 -- Something that is null is a panic, and is tried first.
 abbrev pub unless_null : ℕ → Turn Fiber Shared → Turn Fiber Shared

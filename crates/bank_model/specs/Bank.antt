@@ -1,9 +1,11 @@
--- The memory of a fiber that has a bank of its own.
+-- The memory of a fiber that has a bank of its own, and one step over it.
 use Rattle.std.specs.Prelude.{ℕ, zero, suc, ◌*◌, ◌/◌, ◌-◌, List, [], ◌∷◌, length, drop, Bool, false, nat_lt, if◌then◌else◌}
+use Rattle.thumb_code.specs.declared.register_file.Registers.{Registers}
 use Rattle.thumb_code.specs.RegisterFile.{aligned}
 use Rattle.thumb_code.specs.Forms.{Access}
 use Rattle.thumb_code.specs.Map.{globals_at, arena_at, stack_at, access_fault, sp_in_range, part, flash_word, word_in, changed}
-use Rattle.thumb_code.specs.Memory.{Memory}
+use Rattle.thumb_code.specs.Memory.{Memory, execute_moving}
+use Rattle.thumb_code.specs.Step.{Stepped, fetched, ran}
 
 -- Flash, globals and arena, which all fibers share; and this fiber's base and bank, the words from its SP up to its base.
 pub record Bank : Type 0 where
@@ -62,3 +64,7 @@ bank_memory = record {
   store = λ m a v. (bank_store m.0 a v, m.1);
   has_sp = λ m sp. sp_in_range m.0.base sp;
 }
+
+-- One step of a fiber over its bank.
+abbrev pub bank_step : Registers → Bank × List ℕ → Stepped (Bank × List ℕ)
+bank_step r m = ran (execute_moving bank_memory bank_move m r.sp) r (fetched m.0.flash m.0.base r.pc)

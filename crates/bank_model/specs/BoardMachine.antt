@@ -8,8 +8,7 @@ use Rattle.board_world.specs.Kinds.{Kind, Turn, Goes, Faults}
 use Rattle.board_world.specs.Activities.{World}
 use Rattle.board_world.specs.World.{start}
 use Rattle.board_world.specs.Runs.{run}
-use Rattle.bank_model.specs.Bank.{Bank}
-use Rattle.bank_model.specs.Steps.{bank_step}
+use Rattle.bank_model.specs.Bank.{Bank, bank_step}
 use Rattle.bank_model.specs.Fibers.{Fiber, Shared, shared_at_reset, begins}
 use Rattle.bank_model.specs.AllServices.{service}
 

@@ -1,13 +1,8 @@
 pub mod Bank
-pub mod Steps
-pub mod Shows
-pub mod Division
 pub mod Fibers
 pub mod Texts
 pub mod Arrays
 pub mod AllServices
 pub mod BoardMachine
 pub mod Standing
-pub mod Watched
-pub mod SingleFiber
-pub mod SmallImages
+pub mod Runs

@@ -1,14 +1,57 @@
--- A fiber that stands on the stack region of one RAM, and what a step of it leaves.
-use Rattle.std.specs.Prelude.{◌≡◌, ℕ, ◌+◌, ◌*◌, ◌-◌, ◌/◌, ◌%◌, ◌<◌, ◌≤◌, List, ◌++◌, length, take, drop}
-use Rattle.thumb_code.specs.Map.{stack_at, ram_end, place}
-use Rattle.thumb_code.specs.Ram.{Ram}
-use Rattle.thumb_code.specs.Step.{Stepped, On, Served, Faulted}
-use Rattle.thumb_code.specs.Machine.{State, step}
+-- What one RAM shows of a bank, and a fiber that stands on its stack region.
+use Rattle.std.specs.Prelude.{◌≡◌, ℕ, zero, suc, ◌+◌, ◌*◌, ◌-◌, ◌/◌, ◌%◌, ◌<◌, ◌≤◌, true, List, ◌++◌, length, take, drop, slice_index}
+use Rattle.thumb_code.specs.declared.register_file.Registers.{Registers}
+use Rattle.thumb_code.specs.Map.{stack_at, ram_end, place, is_base}
+use Rattle.thumb_code.specs.Step.{Stepped, On, Served, Faulted, fetched}
+use Rattle.thumb_code.specs.Run.{Ran, Still, runs, from_step, over_moving}
+use Rattle.thumb_code.specs.Machine.{State, step, Ram}
 use Rattle.board_world.specs.Kinds.{Turn, Goes, Faults}
-use Rattle.bank_model.specs.Bank.{Bank}
+use Rattle.bank_model.specs.Bank.{Bank, bank_sp, bank_memory, bank_move}
 use Rattle.bank_model.specs.Fibers.{Fiber, Shared}
 use Rattle.bank_model.specs.AllServices.{service}
 use Rattle.bank_model.specs.BoardMachine.{fiber_turn}
+
+-- The words ys are those of xs from a place on.
+pub record IsPart (xs : List ℕ) (from : ℕ) (ys : List ℕ) : Type 0 where
+  pub within : from + length ys ≤ length xs
+  pub same : (k : ℕ) → k < length ys → slice_index ys k ≡ slice_index xs (from + k)
+
+-- Flash, globals, arena and base are the same, and the bank is the words of the stack region from SP up to the base. The rest of
+-- the stack region may hold anything.
+pub record Shows (sp : ℕ) (m : Ram) (b : Bank) : Type 0 where
+  pub flash : b.flash ≡ m.flash
+  pub globals : b.globals ≡ m.globals
+  pub arena : b.arena ≡ m.arena
+  pub base : b.base ≡ m.base
+  pub aligned : m.base % 4 ≡ 0
+  pub low : stack_at + 4 * length b.words ≤ m.base
+  pub high : m.base ≤ ram_end
+  pub size : length m.stack ≡ 1024
+  pub sp_is : bank_sp b ≡ sp
+  pub words : IsPart m.stack (place stack_at (bank_sp b)) b.words
+
+-- The image is in flash, the base is the same, and the RAM shows the bank where the base is one; where it isn't, every step is that
+-- fault.
+pub record AgreesWithBank (image : List ℕ) (sp : ℕ) (m : Ram) (b : Bank) : Type 0 where
+  pub flash : m.flash ≡ image
+  pub bank_flash : b.flash ≡ image
+  pub base : b.base ≡ m.base
+  pub shows : is_base m.base ≡ true → Shows sp m b
+
+-- So many steps of the machine with one RAM, up to a request or a fault.
+abbrev pub ram_steps : ℕ → State → Ran Ram
+ram_steps zero s = Still s.registers s.memory
+ram_steps (suc n) s = from_step (λ r t. ram_steps n (record { registers = r; memory = t })) n (step s)
+
+-- So many steps of a fiber over its bank.
+abbrev pub bank_steps : ℕ → Registers → Bank × List ℕ → Ran (Bank × List ℕ)
+bank_steps n r m = runs (over_moving bank_memory bank_move) (fetched m.0.flash m.0.base) n r m
+
+-- The second's step is the first's, and leaves the rest of the free words.
+abbrev pub FollowsStep : {S U : Type 0} → (ℕ → S → U → Type 0) → Stepped S → (List ℕ → Stepped (U × List ℕ)) → Type 0
+FollowsStep R (On r s) f = (u : _) × R r.sp s u × ((rest : List ℕ) → f rest ≡ On r (u, rest))
+FollowsStep R (Served n r s) f = (u : _) × R r.sp s u × ((rest : List ℕ) → f rest ≡ Served n r (u, rest))
+FollowsStep R (Faulted k at) f = (rest : List ℕ) → f rest ≡ Faulted k at
 
 -- The words of the stack region from one address up to another.
 abbrev pub words_in : List ℕ → ℕ → ℕ → List ℕ
@@ -18,12 +61,6 @@ words_in stack sp base = take ((base - sp) / 4) (drop (place stack_at sp) stack)
 abbrev pub SameFrom : ℕ → List ℕ → List ℕ → Type 0
 SameFrom at old new = drop (place stack_at at) new ≡ drop (place stack_at at) old
 
--- A base may be a multiple of 4 from the start of the stack region to its end.
-pub record IsBase (base : ℕ) : Type 0 where
-  pub aligned : base % 4 ≡ 0
-  pub low : stack_at ≤ base
-  pub high : base ≤ ram_end
-
 -- SP and base are multiples of 4 in the stack region, and SP isn't above the base.
 pub record IsInside (sp base : ℕ) : Type 0 where
   pub sp_aligned : sp % 4 ≡ 0
@@ -31,11 +68,6 @@ pub record IsInside (sp base : ℕ) : Type 0 where
   pub low : stack_at ≤ sp
   pub within : sp ≤ base
   pub high : base ≤ ram_end
-
--- The bank of who stands on RAM with this SP.
-abbrev pub bank_on : Ram → ℕ → Bank
-bank_on m sp =
-    record { flash = m.flash; globals = m.globals; arena = m.arena; base = m.base; words = words_in m.stack sp m.base }
 
 -- The fiber that runs on the machine, and what all share, where so many words of the arena are used.
 abbrev pub fiber_on : State → Fiber
@@ -74,8 +106,8 @@ pub record KeepsAbove (m t : Ram) : Type 0 where
 
 -- What a step leaves, unless it is a fault, which leaves all.
 abbrev pub StepKeepsAbove : Ram → Stepped Ram → Type 0
-StepKeepsAbove m (On r t) = KeepsAbove m t × IsBase m.base
-StepKeepsAbove m (Served n r t) = KeepsAbove m t × IsBase m.base
+StepKeepsAbove m (On r t) = KeepsAbove m t × (is_base m.base ≡ true)
+StepKeepsAbove m (Served n r t) = KeepsAbove m t × (is_base m.base ≡ true)
 StepKeepsAbove m (Faulted k at) = Unit {0}
 
 -- The fiber stands inside behind a step that isn't a fault.

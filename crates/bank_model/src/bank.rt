@@ -4,12 +4,10 @@ ghost use Rattle.thumb_code.specs.declared.instructions.Instr.{Instr};
 ghost use Rattle.thumb_code.specs.declared.register_file.Registers.{Registers};
 ghost use Rattle.thumb_code.specs.Effect.{effect};
 ghost use Rattle.thumb_code.specs.Memory.{execute, execute_moving};
-ghost use Rattle.thumb_code.specs.Ram.{Ram, ram_memory};
-ghost use Rattle.thumb_code.specs.Machine.{State, step};
-ghost use Rattle.thumb_code.specs.Refines.{DoesTheSame, RunsTheSame};
-ghost use Rattle.bank_model.specs.Bank.{Bank, bank_memory, bank_move};
-ghost use Rattle.bank_model.specs.Steps.{ram_steps, bank_step, bank_steps, FollowsStep};
-ghost use Rattle.bank_model.specs.Shows.{Shows, AgreesWithBank};
+ghost use Rattle.thumb_code.specs.Machine.{State, step, Ram, ram_memory};
+ghost use Rattle.thumb_code.specs.Run.{DoesTheSame, RunsTheSame};
+ghost use Rattle.bank_model.specs.Bank.{Bank, bank_memory, bank_move, bank_step};
+ghost use Rattle.bank_model.specs.Standing.{ram_steps, bank_steps, FollowsStep, Shows, AgreesWithBank};
 
 /// What an instruction does over one RAM, it does over the bank that the RAM shows, with some list of free words and whatever
 /// stands behind it, which stays.

@@ -4,10 +4,10 @@ ghost use Rattle.board_world.specs.Observations.{Observation, Serial, Quietly, P
 ghost use Rattle.board_world.specs.Kinds.{Goes, Asks, Ends, Panics, Faults, Writes};
 ghost use Rattle.board_world.specs.World.{tick};
 ghost use Rattle.thumb_code.specs.Machine.{State, reset, main_of};
-ghost use Rattle.bank_model.specs.Shows.{AgreesWithBank};
+ghost use Rattle.bank_model.specs.Standing.{AgreesWithBank};
 ghost use Rattle.bank_model.specs.Fibers.{Fiber, Shared, begins, shared_at_reset};
 ghost use Rattle.bank_model.specs.BoardMachine.{memory_of, fibers, fiber_turn, bank_start};
-ghost use Rattle.bank_model.specs.SingleFiber.{single, ended};
+ghost use Rattle.bank_model.specs.Runs.{single, ended};
 
 /// Main's fiber begins with the registers of the machine at reset, and its bank agrees with the RAM there.
 pub fn main_begins_at_reset()

@@ -2,10 +2,9 @@
 ghost use Rattle.std.specs.Prelude.{◌≡◌, [], ◌∷◌, ◌++◌, replicate, codes, pos, true, false, Some};
 ghost use Rattle.board_world.specs.Observations.{Faulted};
 ghost use Rattle.board_world.specs.Board.{Down, Raise, transcript_of};
-ghost use Rattle.bank_model.specs.SmallImages.{code, image, written_with};
 ghost use Rattle.bank_model.specs.Texts.{is_text};
 ghost use Rattle.bank_model.specs.BoardMachine.{bank_run};
-ghost use Rattle.bank_model.specs.Watched.{unsteady, watched_run};
+ghost use Rattle.bank_model.specs.Runs.{unsteady, watched_run, code, image, written_with};
 
 /// The end, a panic with its code modulo 256, the text of a signed number, and division, whose least number by -1 is itself and whose divisor 0 gives 0. Each number from 24 on is BadService.
 pub fn rows_of_numbers()

@@ -3,7 +3,7 @@ ghost use Rattle.std.specs.Prelude.{◌≡◌, ℕ, List, Some};
 ghost use Rattle.board_world.specs.Observations.{Faulted};
 ghost use Rattle.board_world.specs.Board.{Entry};
 ghost use Rattle.bank_model.specs.BoardMachine.{bank_run};
-ghost use Rattle.bank_model.specs.Watched.{unsteady, watched_run};
+ghost use Rattle.bank_model.specs.Runs.{unsteady, watched_run};
 
 /// What all fibers share counts the used words of the arena as the board does.
 pub fn used_words_are_counted()

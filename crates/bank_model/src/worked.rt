@@ -1,7 +1,7 @@
 //! Worked rows: small images, and what the bank machine writes for them.
 ghost use Rattle.std.specs.Prelude.{◌≡◌, [], ◌∷◌, codes, pos, negsuc};
-ghost use Rattle.bank_model.specs.Division.{quotient, remainder};
-ghost use Rattle.bank_model.specs.SmallImages.{code, image, written};
+ghost use Rattle.bank_model.specs.AllServices.{quotient, remainder};
+ghost use Rattle.bank_model.specs.Runs.{code, image, written};
 
 /// What is a fault: UDF, a store at the base, ADD SP at the base, a service that isn't there; an image without bytes, whose base is
 /// 0xFFFFFFFF; and a code address of main with bit 0 clear.

@@ -18,8 +18,7 @@ use Rattle.board_world.specs.Kinds.{Question, Raises, Plots, Displays, Writes, S
 use Rattle.board_world.specs.Activities.{World}
 use Rattle.bank_model.specs.Fibers.{Fiber, Shared}
 use Rattle.bank_model.specs.Standing.{fiber_on, shared_on}
-use Rattle.bank_model.specs.AllServices.{service, argument, word_argument, asked_event, answered, answered_word, number_word}
-use Rattle.bank_model.specs.Division.{quotient, remainder}
+use Rattle.bank_model.specs.AllServices.{service, argument, word_argument, asked_event, answered, answered_word, number_word, quotient, remainder}
 use Rattle.bank_model.specs.Texts.{glyph_at}
 use Rattle.message_bus.specs.BusState.{BusState, queued}
 use Rattle.fiber_runtime.specs.declared.turning.Turning.{Turning}

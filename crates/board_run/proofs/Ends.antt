@@ -18,11 +18,11 @@ use Rattle.std.specs.Prelude.{IfSome}
 use Rattle.fiber_runtime.specs.declared.turning.Turning.{Turning}
 use Rattle.fiber_runtime.specs.declared.turning.Raiser.{Raiser}
 use Rattle.bank_model.specs.Standing.{words_in, fiber_on}
-use Rattle.fiber_runtime.specs.State.{State, key_of, key_running}
+use Rattle.fiber_runtime.specs.State.{State, key_of}
 use Rattle.fiber_runtime.specs.Sound.{IsSound, IsNested}
 use Rattle.fiber_runtime.specs.Moves.{Ended, machine_started}
 use Rattle.fiber_queues.proofs.Laws.{how_often-listed}
-use Rattle.fiber_runtime.proofs.Laws.{sound_ended, sound_keyless, sound_named, own_key_once, no_words}
+use Rattle.fiber_runtime.proofs.Laws.{key_running, sound_ended, sound_keyless, sound_named, own_key_once, no_words}
 use Rattle.board_run.specs.Shown.{ArePlaces, acting, standing}
 use Rattle.board_run.specs.Represents.{BoardState, IsRecorded, Represents, behind}
 use Rattle.board_run.proofs.Standing.{standing_heard, keys_same, keyed_same}

@@ -20,8 +20,7 @@ use Rattle.fiber_runtime.specs.declared.turning.Raiser.{Raiser}
 use Rattle.fiber_runtime.specs.declared.blocking.Why.{Why}
 use Rattle.fiber_runtime.specs.declared.blocking.Why.TheVariants.{Pause, Wait}
 use Rattle.bank_model.specs.Standing.{words_in, IsInside, fiber_on}
-use Rattle.fiber_runtime.specs.Words.{ReachesBase, kept_of}
-use Rattle.fiber_runtime.specs.State.{State}
+use Rattle.fiber_runtime.specs.State.{State, ReachesBase, kept_of}
 use Rattle.fiber_queues.specs.Keys.{listed, how_often}
 use Rattle.fiber_runtime.specs.Sound.{IsSound, IsNested, IsStanding}
 use Rattle.fiber_runtime.specs.Moves.{Blocked, Adopted, joined}

@@ -1,8 +1,7 @@
 -- One instruction of the running fiber, from the machine's step to the run.
 use Rattle.std.proofs.Common.{◌≡◌, ℕ, Bool, List, [], ◌∷◌, ◌++◌, map, Option, Some, None, is_some, refl, sym, ap, ◌∙◌, subst}
-use Rattle.thumb_code.specs.Ram.{Ram}
 use Rattle.thumb_code.specs.Step.{Stepped, On, Served, Faulted}
-use Rattle.thumb_code.specs.Machine.{State as Machine, step}
+use Rattle.thumb_code.specs.Machine.{State as Machine, step, Ram}
 use Rattle.board_world.specs.Observations.{End, Faulted as EndFaulted}
 use Rattle.board_world.specs.Board.{Board, ended_by}
 use Rattle.board_world.specs.Kinds.{Turn, Goes, Faults}

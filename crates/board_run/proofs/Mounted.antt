@@ -13,10 +13,9 @@ use Rattle.event_script.specs.Sound.{IsSound}
 use Rattle.event_script.specs.declared.script.Entry.{Entry as ScriptEntry}
 use Rattle.event_script.specs.declared.script.Script.{Script}
 use Rattle.fiber_pool.specs.Kept.{Kept}
-use Rattle.fiber_runtime.specs.State.{State}
-use Rattle.fiber_runtime.specs.Sound.{once}
+use Rattle.fiber_runtime.specs.State.{State, ReachesBase}
+use Rattle.thumb_code.specs.Arithmetic.{bit_of}
 use Rattle.fiber_queues.specs.Keys.{how_often}
-use Rattle.fiber_runtime.specs.Words.{ReachesBase}
 use Rattle.fiber_runtime.specs.Moves.{HasMain, fresh}
 use Rattle.fiber_queues.proofs.Laws.{how_often-same, how_often-other}
 use Rattle.board_run.specs.declared.engine.Engine.{Engine}
@@ -37,9 +36,9 @@ mounts_main image until script pool key free main others live = record {
   sound = record {
     each = λ other. elim (cases_eq other key) [
       | inl same ↦ (let one : how_often other (key ∷ []) ≡ 1 = subst (λ o. how_often o (key ∷ []) ≡ 1) (sym same) (how_often-same key) in
-          let now : once (is_some (get pool other)) ≡ 1 = ap (λ o. once (is_some (get pool o))) same ∙ ap (λ x. once (is_some x)) main in omega (arith, one, now))
+          let now : bit_of (is_some (get pool other)) ≡ 1 = ap (λ o. bit_of (is_some (get pool o))) same ∙ ap (λ x. bit_of (is_some x)) main in omega (arith, one, now))
       | inr differs ↦ (let zero' = how_often-other other key (λ q. differs (sym q)) in
-          let now : once (is_some (get pool other)) ≡ 0 = ap (λ x. once (is_some x)) (others other differs) in omega (arith, zero', now))
+          let now : bit_of (is_some (get pool other)) ≡ 0 = ap (λ x. bit_of (is_some x)) (others other differs) in omega (arith, zero', now))
     ];
     count = omega (arith, live);
     most = omega (arith, live);

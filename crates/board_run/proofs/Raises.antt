@@ -10,6 +10,7 @@ use Rattle.board_world.specs.Waiting.{Hearing, handler_of, chosen, left, hears, 
 use Rattle.board_world.specs.Activities.{Activity, World, woken, handlers, holding}
 use Rattle.board_world.specs.Kinds.{RaisesNow}
 use Rattle.board_world.specs.Observations.{Panicked}
+use Rattle.thumb_code.specs.Arithmetic.{bit_of}
 use Rattle.fiber_runtime.proofs.Laws.{inside_fits, sound_machine, sound_suspended, sound_woken, sound_awake, once_most}
 use Rattle.fiber_queues.proofs.Laws.{how_often-listed, chosen-keyed, left-keyed, how_often-parted}
 use Rattle.board_world.specs.World.{acted, dispatch, jump, stops}
@@ -27,7 +28,7 @@ use Rattle.fiber_runtime.specs.declared.turning.Raiser.{Raiser}
 use Rattle.bank_model.specs.Standing.{fiber_on, shared_on}
 use Rattle.fiber_runtime.specs.State.{State}
 use Rattle.fiber_queues.specs.Keys.{how_often}
-use Rattle.fiber_runtime.specs.Sound.{IsSound, IsNested, IsStanding, once}
+use Rattle.fiber_runtime.specs.Sound.{IsSound, IsNested, IsStanding}
 use Rattle.fiber_runtime.specs.Moves.{Woken, suspended}
 use Rattle.board_run.specs.Shown.{PendingDispatch, ArePlaces, IsSpent, place_for, acting, running_of, of_raiser, of_key, begun_as, unbegun, standing}
 use Rattle.message_bus.specs.Numbers.{IsRising, beginning}
@@ -60,7 +61,7 @@ wakes e old new s m =
     live : (key : ℕ) → 1 ≤ how_often key (chosen (hears e) old.lists.waiters) → (o : Option Kept) → get old.pool key ≡ o → (k : Kept) × (get old.pool key ≡ Some k) × (get new.pool key ≡ Some (record k { value = e.value }))
     live key n (Some k) g = (k, g, m.changed key k g n)
     live key n None g = absurd (
-        let z : once (is_some (get old.pool key)) ≡ 0 = ap (λ x. once (is_some x)) g in
+        let z : bit_of (is_some (get old.pool key)) ≡ 0 = ap (λ x. bit_of (is_some x)) g in
         omega (arith, s.each key, n, how_often-parted (hears e) key old.lists.waiters, how_often-listed key old.lists, z))
 
 -- the handlers that the world makes are those of the dispatch place

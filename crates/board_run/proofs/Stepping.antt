@@ -2,10 +2,8 @@
 use Rattle.std.proofs.Common.{◌≡◌, ℕ, List, [], Bool, true, false, Option, Some, None, IsSome, refl, sym, ap, ◌∙◌, subst}
 use Rattle.std.specs.Option.{option_map}
 use Rattle.thumb_code.specs.declared.register_file.Registers.{Registers}
-use Rattle.thumb_code.specs.Ram.{Ram}
-use Rattle.thumb_code.specs.Step.{Stepped, On, Served, Faulted}
-use Rattle.thumb_code.specs.Machine.{State as Machine, step}
-use Rattle.thumb_code.specs.Asking.{ServesOnly}
+use Rattle.thumb_code.specs.Step.{Stepped, On, Served, Faulted, ServesOnly}
+use Rattle.thumb_code.specs.Machine.{State as Machine, step, Ram}
 use Rattle.thumb_code.proofs.Laws.{step_asks_only}
 use Rattle.armv6m_machine.specs.Steps.{IsStep}
 use Rattle.armv6m_machine.specs.Answers.{number_of}

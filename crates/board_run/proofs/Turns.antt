@@ -13,8 +13,7 @@ use Rattle.std.specs.List.{AllByRecursion}
 use Rattle.fiber_runtime.specs.declared.turning.Turning.{Turning}
 use Rattle.fiber_runtime.specs.declared.turning.Raiser.{Raiser}
 use Rattle.bank_model.specs.Standing.{words_in, fiber_on}
-use Rattle.fiber_runtime.specs.Words.{ReachesBase, kept_of}
-use Rattle.fiber_runtime.specs.State.{State}
+use Rattle.fiber_runtime.specs.State.{State, ReachesBase, kept_of}
 use Rattle.fiber_runtime.specs.Sound.{IsSound, IsNested, IsStanding}
 use Rattle.fiber_runtime.specs.Moves.{Resumed, Holds, started, machine_started, reinstated, turning_of}
 use Rattle.fiber_runtime.proofs.Laws.{sound_resumed, sound_started, sound_reinstated, no_words, inside_fits}

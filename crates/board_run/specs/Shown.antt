@@ -13,7 +13,7 @@ use Rattle.bank_model.specs.Standing.{fiber_on}
 use Rattle.message_bus.specs.Agreement.{handler_activity}
 use Rattle.fiber_pool.specs.Kept.{Kept, kept_at}
 use Rattle.fiber_runtime.specs.declared.turning.Turning.{Turning}
-use Rattle.fiber_runtime.specs.Banks.{fiber_raising, fiber_kept}
+use Rattle.fiber_runtime.specs.State.{fiber_raising, fiber_kept}
 
 pub record PendingDispatch : Type 0 where
   pub event : Event

@@ -1,8 +1,7 @@
 // Services on numbers, and those of the arena.
 ghost use Rattle.std.specs.Prelude.{◌≡◌, ◌<◌, ℕ, ℤ, All, length};
-ghost use Rattle.bank_model.specs.Division.{quotient, remainder};
 ghost use Rattle.board_services.specs.declared.numbers.TheConstants.{NUMBER_GLYPH, ALLOCATE, PUSH, DIVIDE, REMAINDER};
-ghost use Rattle.bank_model.specs.AllServices.{service};
+ghost use Rattle.bank_model.specs.AllServices.{service, quotient, remainder};
 ghost use Rattle.bank_model.specs.Texts.{glyph_at};
 ghost use Rattle.board_world.specs.Transcript.{decimal_text};
 ghost use Rattle.board_run.specs.Serving.{IsServed, Keeps};

@@ -10,8 +10,7 @@ use Rattle.bank_model.specs.Fibers.{Fiber, Shared}
 use Rattle.bank_model.specs.BoardMachine.{memory_of}
 use Rattle.thumb_layout.specs.declared.pieces.Piece.TheVariants.{CallTo}
 use Rattle.thumb_layout.specs.Pieces.{Places}
-use Rattle.thumb_layout.specs.Holds.{ComesSilently}
-use Rattle.thumb_layout.proofs.Laws.{reaches_add}
+use Rattle.thumb_layout.proofs.Laws.{reaches_add, ComesSilently}
 use Rattle.flat_ir.specs.declared.ops.Op.{Op}
 use Rattle.flat_ir.specs.declared.ops.Op.TheVariants.{Call}
 use Rattle.flat_ir.specs.declared.ops.FlatCode.{FlatCode}

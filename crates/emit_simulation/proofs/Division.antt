@@ -6,12 +6,12 @@ use Rattle.thumb_code.specs.RegisterFile.{word, is_odd}
 use Rattle.thumb_code.specs.Map.{is_base}
 use Rattle.thumb_code.specs.Step.{fetched}
 use Rattle.bank_model.specs.Bank.{Bank}
-use Rattle.bank_model.specs.Division.{quotient, remainder}
+use Rattle.bank_model.specs.AllServices.{quotient, remainder}
 use Rattle.thumb_layout.specs.declared.pieces.Piece.{Piece}
 use Rattle.thumb_layout.specs.declared.pieces.Piece.TheVariants.{CallTo}
 use Rattle.thumb_layout.specs.Pieces.{Places}
-use Rattle.thumb_layout.specs.Holds.{cost, ComesSilently}
-use Rattle.thumb_layout.proofs.Laws.{reaches_add}
+use Rattle.thumb_layout.specs.Holds.{cost}
+use Rattle.thumb_layout.proofs.Laws.{reaches_add, ComesSilently}
 use Rattle.thumb_divide.specs.Routine.{HasRoutine, most_instructions}
 use Rattle.thumb_divide.proofs.Laws.{divides_on_a_bank, within_reaches}
 use Rattle.flat_ir.specs.declared.ops.Function.{Function}

@@ -3,15 +3,13 @@ use Rattle.std.proofs.Common.{zero, suc, ◌≡◌, ℕ, ◌+◌, ◌*◌, ◌-�
 use Rattle.std.proofs.lemmas.List.{length-set, length-append}
 use Rattle.thumb_code.specs.declared.instructions.Instr.TheVariants.{MovHigh, MovImm, CmpReg, Push, Svc}
 use Rattle.thumb_code.specs.declared.register_file.Registers.{Registers}
-use Rattle.thumb_code.specs.Arithmetic.{sum_flags, inverted, bit_of, nz}
-use Rattle.thumb_code.specs.Conditions.{holds}
+use Rattle.thumb_code.specs.Arithmetic.{sum_flags, inverted, bit_of, nz, holds}
 use Rattle.thumb_code.specs.Step.{Fetched}
 use Rattle.bank_model.specs.Bank.{Bank}
 use Rattle.thumb_layout.specs.declared.pieces.Piece.{Piece}
 use Rattle.thumb_layout.specs.declared.pieces.Piece.TheVariants.{Plain, Label, Go, Number}
 use Rattle.thumb_layout.specs.Pieces.{Places}
-use Rattle.thumb_layout.specs.Holds.{ComesSilently}
-use Rattle.thumb_layout.proofs.Laws.{reaches_add}
+use Rattle.thumb_layout.proofs.Laws.{reaches_add, ComesSilently}
 use Rattle.flat_ir.specs.declared.ops.Function.{Function}
 use Rattle.flat_ir.specs.Liveness.{IsLiveAt}
 use Rattle.register_assign.specs.declared.places.Place.{Place}

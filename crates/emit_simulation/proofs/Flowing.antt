@@ -9,8 +9,8 @@ use Rattle.bank_model.specs.Bank.{Bank}
 use Rattle.thumb_layout.specs.declared.pieces.Piece.{Piece}
 use Rattle.thumb_layout.specs.declared.pieces.Piece.TheVariants.{Plain, Label, Go, Number, Address}
 use Rattle.thumb_layout.specs.Pieces.{Places, piece_effect, goes_on, is_taken}
-use Rattle.thumb_layout.specs.Holds.{cost, Means, ComesSilently}
-use Rattle.thumb_layout.proofs.Laws.{silent_add, silent_one, reaches_add}
+use Rattle.thumb_layout.specs.Holds.{cost, Means}
+use Rattle.thumb_layout.proofs.Laws.{silent_add, silent_one, reaches_add, ComesSilently}
 use Rattle.thumb_emit.specs.Bounds.{total_cost}
 use Rattle.placed_frames.specs.View.{View, registers_of, bank_of, At}
 use Rattle.placed_frames.proofs.Laws.{does, at_view, quiet_does}

@@ -11,8 +11,7 @@ use Rattle.board_world.specs.Sound.{NoFault}
 use Rattle.bank_model.specs.Bank.{Bank}
 use Rattle.bank_model.specs.Fibers.{Fiber, Shared}
 use Rattle.bank_model.specs.BoardMachine.{memory_of, fiber_of}
-use Rattle.thumb_layout.specs.Holds.{ComesSilently}
-use Rattle.thumb_layout.proofs.Laws.{reaches_add}
+use Rattle.thumb_layout.proofs.Laws.{reaches_add, ComesSilently}
 use Rattle.flat_ir.specs.declared.ops.Function.{Function}
 use Rattle.flat_ir.specs.declared.ops.FlatCode.{FlatCode}
 use Rattle.register_assign.specs.declared.places.Placed.{Placed}

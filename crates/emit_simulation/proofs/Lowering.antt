@@ -9,8 +9,7 @@ use Rattle.bank_model.specs.Bank.{Bank}
 use Rattle.thumb_layout.specs.declared.pieces.Piece.{Piece}
 use Rattle.thumb_layout.specs.declared.pieces.Piece.TheVariants.{Plain}
 use Rattle.thumb_layout.specs.Pieces.{Places}
-use Rattle.thumb_layout.specs.Holds.{ComesSilently}
-use Rattle.thumb_layout.proofs.Laws.{reaches_add}
+use Rattle.thumb_layout.proofs.Laws.{reaches_add, ComesSilently}
 use Rattle.thumb_emit.specs.Frame.{raises, lowers}
 use Rattle.placed_frames.specs.View.{At}
 use Rattle.placed_frames.proofs.Laws.{Down, move_down, move_up, sub_sp, add_sp}

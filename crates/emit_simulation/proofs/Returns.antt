@@ -21,8 +21,8 @@ use Rattle.bank_model.specs.BoardMachine.{fibers, memory_of, fiber_of, shared_in
 use Rattle.thumb_layout.specs.declared.pieces.Piece.{Piece}
 use Rattle.thumb_layout.specs.declared.pieces.Piece.TheVariants.{Plain, CallTo, Label}
 use Rattle.thumb_layout.specs.Pieces.{Places, goes_on as piece_goes_on}
-use Rattle.thumb_layout.specs.Holds.{cost, ComesSilently}
-use Rattle.thumb_layout.proofs.Laws.{reaches_add}
+use Rattle.thumb_layout.specs.Holds.{cost}
+use Rattle.thumb_layout.proofs.Laws.{reaches_add, ComesSilently}
 use Rattle.flat_ir.specs.declared.ops.Op.{Op}
 use Rattle.flat_ir.specs.declared.ops.Op.TheVariants.{Return, Call, CallSlot}
 use Rattle.flat_ir.specs.declared.ops.Function.{Function}

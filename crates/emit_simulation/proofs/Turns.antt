@@ -10,17 +10,15 @@ use Rattle.board_world.specs.Observations.{ByteList}
 use Rattle.board_world.specs.Kinds.{Kind, Turn, Goes, Panics}
 use Rattle.board_world.specs.Simulation.{Path, one, Going, Onward}
 use Rattle.board_world.specs.Trailing.{Completes}
-use Rattle.bank_model.specs.Bank.{Bank}
+use Rattle.bank_model.specs.Bank.{Bank, bank_step}
 use Rattle.bank_model.specs.Fibers.{Fiber, Shared}
 use Rattle.bank_model.specs.BoardMachine.{fibers, memory_of, fiber_of, shared_in, turn_of}
 use Rattle.bank_model.specs.AllServices.{service}
-use Rattle.bank_model.specs.Steps.{bank_step}
 use Rattle.thumb_code.specs.RegisterFile.{low}
 use Rattle.thumb_layout.specs.declared.pieces.Piece.{Piece}
 use Rattle.thumb_layout.specs.declared.pieces.Piece.TheVariants.{Plain}
 use Rattle.thumb_layout.specs.Pieces.{Places}
-use Rattle.thumb_layout.specs.Holds.{ComesSilently}
-use Rattle.thumb_layout.proofs.Laws.{silent_add}
+use Rattle.thumb_layout.proofs.Laws.{silent_add, ComesSilently}
 use Rattle.flat_ir.specs.declared.ops.FlatCode.{FlatCode}
 use Rattle.sts_meaning.specs.Heaps.{FlatHeap}
 use Rattle.register_assign.specs.declared.places.Placed.{Placed}

@@ -13,7 +13,8 @@ use Rattle.thumb_layout.specs.declared.pieces.Piece.{Piece}
 use Rattle.thumb_layout.specs.declared.pieces.Piece.TheVariants.{Plain, Label, Go}
 use Rattle.thumb_layout.specs.Pieces.{Places, is_taken, goes_on, goes_on_instr}
 use Rattle.thumb_code.specs.Effect.{effect, ends, Goes}
-use Rattle.thumb_layout.specs.Holds.{cost, ComesSilently}
+use Rattle.thumb_layout.specs.Holds.{cost}
+use Rattle.thumb_layout.proofs.Laws.{ComesSilently}
 use Rattle.flat_ir.specs.declared.ops.Op.{Op}
 use Rattle.flat_ir.specs.declared.ops.FlatCode.{FlatCode}
 use Rattle.flat_ir.specs.Liveness.{IsLiveAt}

@@ -9,8 +9,7 @@ use Rattle.board_world.specs.Simulation.{Path, one}
 use Rattle.board_world.specs.Sound.{NoFault}
 use Rattle.bank_model.specs.Fibers.{Fiber, Shared, begins, begins_on}
 use Rattle.bank_model.specs.BoardMachine.{fibers, memory_of}
-use Rattle.thumb_layout.specs.Holds.{ComesSilently}
-use Rattle.thumb_layout.proofs.Laws.{reaches_none}
+use Rattle.thumb_layout.proofs.Laws.{reaches_none, ComesSilently}
 use Rattle.flat_ir.specs.declared.ops.Op.{Op}
 use Rattle.flat_ir.specs.declared.ops.Function.{Function}
 use Rattle.flat_ir.specs.declared.ops.FlatCode.{FlatCode}

@@ -10,11 +10,10 @@ use Rattle.thumb_code.specs.declared.instructions.Instr.{Instr}
 use Rattle.thumb_code.specs.declared.instructions.Instr.TheVariants.{MovImm, CmpImm, CmpReg, AddReg, SubReg, AddImm3, SubImm3, And, Eor, Orr, Mul, Mvn, Rsb, LslReg, AsrReg, LsrReg, MovHigh}
 use Rattle.thumb_code.specs.declared.register_file.Registers.{Registers}
 use Rattle.thumb_code.specs.RegisterFile.{word}
-use Rattle.thumb_code.specs.Arithmetic.{nz, sum_of, sum_flags, inverted, bit_of, shifted, lsl, lsr, asr}
-use Rattle.thumb_code.specs.Conditions.{holds}
+use Rattle.thumb_code.specs.Arithmetic.{nz, sum_of, sum_flags, inverted, bit_of, shifted, lsl, lsr, asr, holds}
 use Rattle.thumb_code.specs.Step.{Fetched}
 use Rattle.bank_model.specs.Bank.{Bank}
-use Rattle.bank_model.specs.Division.{quotient, remainder}
+use Rattle.bank_model.specs.AllServices.{quotient, remainder}
 use Rattle.thumb_layout.specs.declared.pieces.Piece.{Piece}
 use Rattle.thumb_layout.specs.declared.pieces.Piece.TheVariants.{Plain, Label, Go}
 use Rattle.thumb_layout.specs.Pieces.{Places, is_taken, goes_on, goes_on_instr}

@@ -3,15 +3,15 @@ use Rattle.std.specs.Prelude.{◌≡◌, ℕ, ◌+◌, ◌%◌, ◌^◌, ◌<◌
 use Rattle.thumb_code.specs.declared.instructions.Instr.{Instr}
 use Rattle.thumb_code.specs.declared.register_file.Registers.{Registers}
 use Rattle.thumb_code.specs.Map.{flash_byte}
-use Rattle.thumb_code.specs.Refines.{over_moving}
 use Rattle.thumb_code.specs.Step.{Fetched}
-use Rattle.thumb_code.specs.Run.{Executor}
+use Rattle.thumb_code.specs.Run.{Executor, over_moving}
 use Rattle.bank_model.specs.Bank.{Bank, bank_memory, bank_move}
 use Rattle.thumb_layout.specs.declared.pieces.What.{What}
 use Rattle.thumb_layout.specs.declared.pieces.Piece.{Piece}
 use Rattle.thumb_layout.specs.declared.pieces.Piece.TheVariants.{Plain, Label, Go, CallTo, Number, Address}
 use Rattle.thumb_layout.specs.Pieces.{Places, is_small, goes_on, goes_on_instr}
-use Rattle.thumb_layout.specs.Holds.{cost, Means, ComesSilently}
+use Rattle.thumb_layout.specs.Holds.{cost, Means}
+use Rattle.thumb_layout.proofs.Laws.{ComesSilently}
 use Rattle.thumb_code.specs.Arithmetic.{nz}
 use Rattle.placed_frames.specs.Places.{Store}
 use Rattle.placed_frames.specs.View.{View, with_low, registers_of, bank_of, Alters, At}

@@ -8,7 +8,7 @@ use Rattle.thumb_code.specs.Map.{stack_at}
 use Rattle.thumb_code.specs.Machine.{State as Machine}
 use Rattle.fiber_pool.specs.Kept.{Kept}
 use Rattle.bank_model.specs.Standing.{words_in, IsInside}
-use Rattle.fiber_runtime.specs.Words.{ReachesBase}
+use Rattle.fiber_runtime.specs.State.{ReachesBase}
 use Rattle.fiber_runtime.specs.Moves.{Holds}
 
 -- the stack region behind the loan, where words were put in at a place

@@ -7,10 +7,9 @@ use Rattle.bank_model.specs.Fibers.{Fiber, begins_on}
 use Rattle.fiber_pool.specs.Kept.{Kept, or_unused}
 use Rattle.fiber_runtime.specs.declared.turning.Raiser.{Raiser}
 use Rattle.bank_model.specs.Standing.{fiber_on, words_in, SameFrom}
-use Rattle.fiber_runtime.specs.State.{State}
+use Rattle.fiber_runtime.specs.State.{State, fiber_raising, fiber_kept, fiber_at}
 use Rattle.fiber_runtime.specs.Sound.{IsNested}
 use Rattle.fiber_runtime.specs.Moves.{machine_started, Resumed}
-use Rattle.fiber_runtime.specs.Banks.{fiber_raising, fiber_kept, fiber_at}
 use Rattle.fiber_runtime.proofs.Stack.{no_words}
 use Rattle.bank_model.proofs.Laws.{same_words}
 

@@ -1,8 +1,7 @@
 -- A step of the machine leaves all words from the base on.
 use Rattle.std.proofs.Common.{◌≡◌, refl, sym, ap, subst}
-use Rattle.thumb_code.specs.Ram.{Ram}
 use Rattle.thumb_code.specs.Step.{Stepped, On, Served, Faulted}
-use Rattle.thumb_code.specs.Machine.{State as Machine, step}
+use Rattle.thumb_code.specs.Machine.{State as Machine, step, Ram}
 use Rattle.armv6m_machine.specs.Steps.{IsStep}
 use Rattle.armv6m_machine.specs.declared.faults.Turn.{Turn}
 use Rattle.armv6m_machine.specs.declared.faults.Turn.TheVariants.{Went, Service, Fault}

@@ -10,19 +10,23 @@ use Rattle.board_world.specs.Limits.{raiser_limit}
 use Rattle.fiber_pool.specs.Kept.{Kept}
 use Rattle.fiber_queues.specs.Lists.{ListsOf}
 use Rattle.fiber_queues.specs.Calls.{due_woken, all_woken}
+use Rattle.thumb_code.specs.Arithmetic.{bit_of}
 use Rattle.fiber_runtime.specs.declared.turning.Turning.{Turning}
 use Rattle.fiber_runtime.specs.declared.turning.Raiser.{Raiser}
 use Rattle.fiber_runtime.specs.declared.blocking.Why.{Why}
 use Rattle.fiber_runtime.specs.declared.blocking.Why.TheVariants.{Pause, Wait}
-use Rattle.fiber_runtime.specs.Words.{ReachesBase, kept_of}
-use Rattle.fiber_runtime.specs.State.{State, key_of, key_running, keys_suspended, keys_on}
-use Rattle.fiber_runtime.specs.Sound.{IsSound, once}
+use Rattle.fiber_runtime.specs.State.{State, key_of, running_key, keys_suspended, keys_on, ReachesBase, kept_of}
+use Rattle.fiber_runtime.specs.Sound.{IsSound}
 use Rattle.fiber_queues.specs.Keys.{listed, how_often}
 use Rattle.fiber_runtime.specs.Moves.{joined, IsIdle, Spawned, Blocked, Adopted, Resumed, Ended, Woken, fresh, started, suspended, reinstated, raiser_of}
 use Rattle.board_world.proofs.Laws.{length_chosen_left}
 use Rattle.fiber_queues.proofs.Laws.{how_often-append, how_often-same, how_often-other, how_often-parted, how_often-listed, length-listed}
 
-pub once_most : (b : Bool) → once b ≤ 1
+-- the keys of who runs
+abbrev pub key_running : Option Turning → List ℕ
+key_running running = key_of (running_key running)
+
+pub once_most : (b : Bool) → bit_of b ≤ 1
 once_most true = omega arith
 once_most false = omega arith
 
@@ -58,11 +62,11 @@ length-on : (s : State) → length (keys_on s) ≡ length (key_running s.running
 length-on s = length-append (key_running s.running) (keys_suspended s.raisers)
 
 -- what a slot says of a key
-updated : (old new : Slab Kept) (key : ℕ) (slot : Option Kept) → Updates old new key slot → (other : ℕ) → other ≡ key → once (is_some (get new other)) ≡ once (is_some slot)
-updated old new key slot u other same = ap (λ o. once (is_some (get new o))) same ∙ ap (λ x. once (is_some x)) u.changed
+updated : (old new : Slab Kept) (key : ℕ) (slot : Option Kept) → Updates old new key slot → (other : ℕ) → other ≡ key → bit_of (is_some (get new other)) ≡ bit_of (is_some slot)
+updated old new key slot u other same = ap (λ o. bit_of (is_some (get new o))) same ∙ ap (λ x. bit_of (is_some x)) u.changed
 
-stayed : (old new : Slab Kept) (key : ℕ) (slot : Option Kept) → Updates old new key slot → (other : ℕ) → other ≢ key → once (is_some (get new other)) ≡ once (is_some (get old other))
-stayed old new key slot u other differs = ap (λ x. once (is_some x)) (u.others other differs)
+stayed : (old new : Slab Kept) (key : ℕ) (slot : Option Kept) → Updates old new key slot → (other : ℕ) → other ≢ key → bit_of (is_some (get new other)) ≡ bit_of (is_some (get old other))
+stayed old new key slot u other differs = ap (λ x. bit_of (is_some x)) (u.others other differs)
 
 one_at : (key other : ℕ) → other ≡ key → how_often other (key ∷ []) ≡ 1
 one_at key other same = subst (λ o. how_often o (key ∷ []) ≡ 1) (sym same) (how_often-same key)
@@ -79,7 +83,7 @@ runs_at s t k e f = ap key_running e ∙ ap key_of f
 
 module _ (old : State) (h : IsSound old) (keys : List ℕ) (runs : key_running old.running ≡ keys) where
   -- each key before
-  each_before : (key : ℕ) → how_often key keys + how_often key (keys_suspended old.raisers) + how_often key (listed old.lists) ≡ once (is_some (get old.pool key))
+  each_before : (key : ℕ) → how_often key keys + how_often key (keys_suspended old.raisers) + how_often key (listed old.lists) ≡ bit_of (is_some (get old.pool key))
   each_before key = let a = how_often-on key old in let b = ap (how_often key) runs in omega (arith, h.each key, a, b)
 
   count_before : length keys + length (keys_suspended old.raisers) + length (listed old.lists) ≡ slab_len old.pool
@@ -111,7 +115,7 @@ sound_keyless old machine running h e f =
 -- nobody has a record
 pub sound_idle : (machine : Machine) (s : State) → IsIdle machine s → IsSound s
 sound_idle machine s h = subst IsSound (sym h.rest) (record {
-  each = λ key. sym (ap (λ o. once (is_some o)) (h.empty key));
+  each = λ key. sym (ap (λ o. bit_of (is_some o)) (h.empty key));
   count = sym h.live;
   most = omega (arith, h.live);
   fits = λ key k f. absurd (let g : ◌≡◌ {A = Option Kept} None (Some k) = sym (h.empty key) ∙ f in cc);
@@ -183,7 +187,7 @@ sound_adopted key t old new h e k m =
       each = λ other. elim (cases_eq other key) [
         | inl same ↦
             (let n = updated old.pool new.pool key _ m.claims.updates other same in let o = one_at key other same in
-            let was : once (is_some (get old.pool other)) ≡ 0 = ap (λ y. once (is_some (get old.pool y))) same ∙ ap (λ x. once (is_some x)) m.claims.free in
+            let was : bit_of (is_some (get old.pool other)) ≡ 0 = ap (λ y. bit_of (is_some (get old.pool y))) same ∙ ap (λ x. bit_of (is_some x)) m.claims.free in
             omega (arith, n, o, was, before other, after other))
         | inr differs ↦ (let n = stayed old.pool new.pool key _ m.claims.updates other differs in let o = none_at key other differs in omega (arith, n, o, before other, after other))
       ];
@@ -241,7 +245,7 @@ sound_spawned entry base old new h m =
       each = λ other. elim (cases_eq other m.key) [
         | inl same ↦
             (let n = updated old.pool new.pool m.key _ m.claims.updates other same in let o = one_at m.key other same in
-            let was : once (is_some (get old.pool other)) ≡ 0 = ap (λ y. once (is_some (get old.pool y))) same ∙ ap (λ x. once (is_some x)) m.claims.free in
+            let was : bit_of (is_some (get old.pool other)) ≡ 0 = ap (λ y. bit_of (is_some (get old.pool y))) same ∙ ap (λ x. bit_of (is_some x)) m.claims.free in
             omega (arith, h.each other, n, o, was, a other, b other, r other))
         | inr differs ↦ (let n = stayed old.pool new.pool m.key _ m.claims.updates other differs in let o = none_at m.key other differs in omega (arith, h.each other, n, o, a other, b other, r other))
       ];
@@ -258,7 +262,7 @@ sound_spawned entry base old new h m =
 sound_relisted : (s : State) (pool : Slab Kept) (q : ListsOf ℕ) → IsSound s → ((key : ℕ) → how_often key (listed q) ≡ how_often key (listed s.lists)) → length (listed q) ≡ length (listed s.lists) → slab_len pool ≡ slab_len s.pool
     → ((key : ℕ) → is_some (get pool key) ≡ is_some (get s.pool key)) → ((key : ℕ) (k : Kept) → get pool key ≡ Some k → (j : Kept) × (get s.pool key ≡ Some j) × (ReachesBase j → ReachesBase k)) → IsSound (record s { pool = pool; lists = q })
 sound_relisted s pool q h t n l o f = record {
-  each = λ key. omega (arith, t key, h.each key, ap once (o key));
+  each = λ key. omega (arith, t key, h.each key, ap bit_of (o key));
   count = omega (arith, h.count);
   most = omega (arith, h.most);
   fits = λ key k g. let w = f key k g in elim (h.fits key w.0 w.1) [ inl one ↦ inl one | inr fit ↦ inr (w.2 fit) ];
@@ -290,7 +294,7 @@ sound_woken e old new h m =
     by_old key (Some k) g (suc n) t = ap is_some (m.changed key k g (omega arith)) ∙ ap is_some (sym g)
     by_old key None g (suc n) t = absurd (
         let a = how_often-listed key old.lists in let d = how_often-parted (hears e) key old.lists.waiters in
-        let z : once (is_some (get old.pool key)) ≡ 0 = ap (λ x. once (is_some x)) g in
+        let z : bit_of (is_some (get old.pool key)) ≡ 0 = ap (λ x. bit_of (is_some x)) g in
         omega (arith, h.each key))
 
     back : (key : ℕ) (k : Kept) → get new.pool key ≡ Some k → (o : Option Kept) → get old.pool key ≡ o → (n : ℕ) → how_often key (chosen (hears e) old.lists.waiters) ≡ n → (j : Kept) × (get old.pool key ≡ Some j) × (ReachesBase j → ReachesBase k)
@@ -301,7 +305,7 @@ sound_woken e old new h m =
         (j, g, λ x. subst ReachesBase s (record { span = x.span; inside = x.inside }))
     back key k f None g (suc n) t = absurd (
         let a = how_often-listed key old.lists in let d = how_often-parted (hears e) key old.lists.waiters in
-        let z : once (is_some (get old.pool key)) ≡ 0 = ap (λ x. once (is_some x)) g in
+        let z : bit_of (is_some (get old.pool key)) ≡ 0 = ap (λ x. bit_of (is_some x)) g in
         omega (arith, h.each key))
 
 -- the running fiber's key stands in no list, and no raiser has it
@@ -310,7 +314,7 @@ own_key_once s t key h e k = let b = each_before s h (key ∷ []) (runs_at s t (
 
 -- a key that isn't live stands in no list
 pub free_key_nowhere : (s : State) (key : ℕ) → IsSound s → get s.pool key ≡ None → how_often key (listed s.lists) ≡ 0
-free_key_nowhere s key h f = let z : once (is_some (get s.pool key)) ≡ 0 = ap (λ x. once (is_some x)) f in omega (arith, h.each key, z)
+free_key_nowhere s key h f = let z : bit_of (is_some (get s.pool key)) ≡ 0 = ap (λ x. bit_of (is_some x)) f in omega (arith, h.each key, z)
 
 pub updates_twice : (a b d : Slab Kept) (key : ℕ) (x y : Option Kept) → Updates a b key x → Updates b d key y → Updates a d key y
 updates_twice a b d key x y u v = record { changed = v.changed; others = λ other n. v.others other n ∙ u.others other n }
@@ -333,10 +337,10 @@ next_fits s key ready h e f r = by_slot (get s.pool key) refl
         let t = how_often-listed key s.lists in
         let u = ap (how_often key) r in
         let v = how_often-append key (key ∷ []) ready in
-        let z : once (is_some (get s.pool key)) ≡ 0 = ap (λ x. once (is_some x)) g in
+        let z : bit_of (is_some (get s.pool key)) ≡ 0 = ap (λ x. bit_of (is_some x)) g in
         omega (arith, how_often-same key, h.each key, t, u, v, z))
 
-once_live : (b : Bool) → 1 ≤ once b → b ≡ true
+once_live : (b : Bool) → 1 ≤ bit_of b → b ≡ true
 once_live true h = refl
 once_live false h = absurd (omega arith)
 

@@ -5,7 +5,7 @@ use Rattle.thumb_code.specs.Machine.{State as Machine}
 use Rattle.bank_model.specs.Standing.{words_in, IsInside}
 use Rattle.bank_model.proofs.Laws.{length_words}
 use Rattle.fiber_runtime.specs.declared.turning.Turning.{Turning}
-use Rattle.fiber_runtime.specs.Words.{ReachesBase, kept_of}
+use Rattle.fiber_runtime.specs.State.{ReachesBase, kept_of}
 
 -- who has just begun has no words
 pub no_words : (stack : List ℕ) (base : ℕ) → words_in stack base base ≡ []

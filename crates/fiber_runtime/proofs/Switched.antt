@@ -7,10 +7,8 @@ use Rattle.fiber_pool.specs.Kept.{Kept, or_unused}
 use Rattle.fiber_runtime.specs.declared.turning.Turning.{Turning}
 use Rattle.fiber_runtime.specs.declared.blocking.Why.{Why}
 use Rattle.bank_model.specs.Standing.{words_in}
-use Rattle.fiber_runtime.specs.Words.{ReachesBase, kept_of}
-use Rattle.fiber_runtime.specs.State.{State}
-use Rattle.fiber_runtime.specs.Moves.{BlocksWith, Blocked, Put, Resumed}
-use Rattle.fiber_runtime.specs.Copying.{Parked, Taken, HasWords}
+use Rattle.fiber_runtime.specs.State.{State, ReachesBase, kept_of}
+use Rattle.fiber_runtime.specs.Moves.{BlocksWith, Blocked, Put, Resumed, Parked, Taken, HasWords}
 use Rattle.fiber_runtime.proofs.Sound.{updates_twice}
 
 pub parked_is_blocked : (key : ℕ) (t : Turning) (why : Why) (now : ℕ) (old new : State) (pool : Slab Kept) (k : Kept) → get old.pool key ≡ Some k

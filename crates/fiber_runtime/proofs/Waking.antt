@@ -1,5 +1,5 @@
 -- Waking one waiter after another.
-use Rattle.std.proofs.Common.{◌≡◌, ℕ, zero, suc, ◌≤◌, inl, inr, [], ◌∷◌, ◌++◌, Option, Some, None, IsSome, is_some, refl, sym, ap, ◌∙◌, subst, arith, append_assoc}
+use Rattle.std.proofs.Common.{◌≡◌, ℕ, zero, suc, ◌≤◌, inl, inr, [], ◌∷◌, ◌++◌, List, Option, Some, None, IsSome, is_some, refl, sym, ap, ◌∙◌, subst, arith, append_assoc}
 use Rattle.std.proofs.lemmas.List.{append-nil}
 use Rattle.std.proofs.lemmas.Bool.{cases_eq}
 use Rattle.slab.specs.Slab.{Slab, get, slab_len, Updates, ContainsKey}
@@ -10,8 +10,19 @@ use Rattle.fiber_pool.specs.Kept.{Kept}
 use Rattle.fiber_queues.specs.Lists.{ListsOf}
 use Rattle.fiber_queues.specs.Calls.{all_woken}
 use Rattle.fiber_queues.specs.Keys.{how_often}
-use Rattle.fiber_runtime.specs.Waking.{IsWaking}
 use Rattle.fiber_queues.proofs.Laws.{how_often-append, how_often-same, how_often-other}
+
+-- Some of the waiters who hear an event have been woken.
+pub record IsWaking (e : Event) (q0 q : ListsOf ℕ) (p0 p : Slab Kept) : Type 0 where
+  pub woken : List ℕ
+  pub ready : q.ready ≡ q0.ready ++ woken
+  pub sleepers : q.sleepers ≡ q0.sleepers
+  pub rest : woken ++ chosen (hears e) q.waiters ≡ chosen (hears e) q0.waiters
+  pub stay : left (hears e) q.waiters ≡ left (hears e) q0.waiters
+  pub changed : (key : ℕ) (k : Kept) → get p0 key ≡ Some k → 1 ≤ how_often key woken
+      → get p key ≡ Some (record k { value = e.value })
+  pub others : (key : ℕ) → how_often key woken ≡ 0 → get p key ≡ get p0 key
+  pub live : slab_len p ≡ slab_len p0
 
 module _ (e : Event) (q0 : ListsOf ℕ) (p0 : Slab Kept) where
   pub waking_start : IsWaking e q0 q0 p0 p0

@@ -7,7 +7,7 @@ use Rattle.board_world.specs.declared.events.Event.{Event}
 use Rattle.board_world.specs.Limits.{seat_limit}
 use Rattle.board_world.specs.Rules.{wake_time}
 use Rattle.board_world.specs.Waiting.{chosen, hears}
-use Rattle.fiber_pool.specs.Kept.{Kept, unused}
+use Rattle.fiber_pool.specs.Kept.{Kept, unused, kept_at}
 use Rattle.fiber_queues.specs.Lists.{ListsOf, no_lists}
 use Rattle.fiber_queues.specs.Keys.{how_often}
 use Rattle.fiber_queues.specs.Calls.{all_woken}
@@ -16,8 +16,7 @@ use Rattle.fiber_runtime.specs.declared.turning.Raiser.{Raiser}
 use Rattle.fiber_runtime.specs.declared.blocking.Why.{Why}
 use Rattle.fiber_runtime.specs.declared.blocking.Why.TheVariants.{Pause, Wait}
 use Rattle.bank_model.specs.Standing.{words_in, SameFrom}
-use Rattle.fiber_runtime.specs.Words.{ReachesBase, kept_of}
-use Rattle.fiber_runtime.specs.State.{State}
+use Rattle.fiber_runtime.specs.State.{State, ReachesBase, kept_of}
 
 -- a key joins the list for why it blocks
 abbrev pub joined : Why → ℕ → ℕ → ListsOf ℕ → ListsOf ℕ
@@ -40,6 +39,15 @@ pub record BlocksWith (words : List ℕ) (key : ℕ) (t : Turning) (why : Why) (
 -- It is copied out: the words are those from SP to the base.
 abbrev pub Blocked : (key : ℕ) (t : Turning) (why : Why) (now : ℕ) (old new : State) → Type 0
 Blocked key t why now old new = BlocksWith (kept_of old.machine t).words key t why now old new
+
+-- Or somebody else copies: the words in its record stay,
+abbrev pub Parked : (key : ℕ) (t : Turning) (why : Why) (now : ℕ) (old new : State) → Type 0
+Parked key t why now old new = BlocksWith (kept_at old.pool key).words key t why now old new
+
+-- and are put there behind it; the record at a key has these words, and all else stays.
+pub record HasWords (key : ℕ) (words : List ℕ) (old new : Slab Kept) : Type 0 where
+  pub updates : (k : Kept) → get old key ≡ Some k → Updates old new key (Some (record k { words = words }))
+  pub live : slab_len new ≡ slab_len old
 
 -- The words that are kept stand in the stack region, from SP to the base, and all others stay.
 pub record Put (k : Kept) (old new : List ℕ) : Type 0 where
@@ -70,6 +78,14 @@ pub record Resumed (old new : State) : Type 0 where
   pub next : RunsNext key kept old new
   pub fits : ReachesBase kept
   pub holds : Holds kept old.machine new.machine
+
+-- Or somebody else copies: the first ready fiber's registers and base are put into the machine, and the stack region stays.
+pub record Taken (old new : State) : Type 0 where
+  pub key : ℕ
+  pub kept : Kept
+  pub next : RunsNext key kept old new
+  pub machine : new.machine
+      ≡ record { registers = kept.registers; memory = record old.machine.memory { base = kept.base } }
 
 -- A fiber begins with an empty record, as the last ready one.
 abbrev pub fresh : List ℕ → ℕ → ℕ → Kept
@@ -102,11 +118,8 @@ pub record HasMain (machine : Machine) (s : State) : Type 0 where
   }
 
 -- The running fiber gets a record, in which nothing but its event value and listener is kept of it yet.
-abbrev pub adopted : Turning → Kept
-adopted t = record unused { value = t.value; listener = t.listener }
-
 pub record Adopted (key : ℕ) (t : Turning) (old new : State) : Type 0 where
-  pub claims : Claims old.pool new.pool key (adopted t)
+  pub claims : Claims old.pool new.pool key (record unused { value = t.value; listener = t.listener })
   pub rest : new ≡ record old { pool = new.pool; running = Some (record t { key = Some key }) }
 
 -- The running fiber's record is free.

@@ -11,12 +11,9 @@ ghost use Rattle.fiber_runtime.specs.declared.turning.Turning.{Turning};
 ghost use Rattle.fiber_runtime.specs.declared.turning.Raiser.{Raiser};
 ghost use Rattle.fiber_runtime.specs.declared.blocking.Why.{Why};
 ghost use Rattle.bank_model.specs.Standing.{fiber_on, KeepsAbove};
-ghost use Rattle.fiber_runtime.specs.Words.{ReachesBase, kept_of};
-ghost use Rattle.fiber_runtime.specs.State.{State};
+ghost use Rattle.fiber_runtime.specs.State.{State, ReachesBase, kept_of, fiber_raising, fiber_at};
 ghost use Rattle.fiber_runtime.specs.Sound.{IsNested, IsStanding};
-ghost use Rattle.fiber_runtime.specs.Moves.{HasMain, Blocked, Put, Resumed, Spawned, Woken, started, restarted, suspended, raiser_of, reinstated};
-ghost use Rattle.fiber_runtime.specs.Copying.{Parked, Taken, HasWords};
-ghost use Rattle.fiber_runtime.specs.Banks.{fiber_raising, fiber_at};
+ghost use Rattle.fiber_runtime.specs.Moves.{HasMain, Blocked, Put, Resumed, Spawned, Woken, started, restarted, suspended, raiser_of, reinstated, Parked, Taken, HasWords};
 
 /// A fiber's registers, base and words stay the same while it goes from the machine to its record or to the raisers, and
 /// back. A fiber that begins does so as in the bank machine, with no words.

@@ -3,7 +3,7 @@ ghost use Rattle.std.specs.Prelude.{◌≡◌, Some, IfSome};
 ghost use Rattle.slab.specs.Slab.{get, slab_len, Updates, ContainsKey};
 ghost use Rattle.fiber_pool.specs.Kept.{Kept};
 ghost use Rattle.bank_model.specs.Standing.{IsInside};
-ghost use Rattle.fiber_runtime.specs.Words.{ReachesBase, kept_of};
+ghost use Rattle.fiber_runtime.specs.State.{ReachesBase, kept_of};
 ghost use Rattle.fiber_runtime.specs.Moves.{Holds};
 
 use crate::turning::Turning;

@@ -2,7 +2,7 @@
 ghost use Rattle.std.specs.Prelude.{◌≡◌, ◌∷◌, ◌++◌, ◌<◌, ◌≤◌, [], length, IfOk, IfNone};
 ghost use Rattle.std.specs.Option.{option_to_list};
 ghost use Rattle.board_world.specs.Limits.{raiser_limit};
-ghost use Rattle.fiber_runtime.specs.Words.{innermost};
+ghost use Rattle.fiber_runtime.specs.State.{innermost};
 
 use crate::turning::Raiser;
 use board_world::RAISER_LIMIT;

@@ -4,15 +4,13 @@ ghost use Rattle.std.specs.Bool.{OnTrue, OnFalse};
 ghost use Rattle.slab.specs.Slab.{slab_len, ContainsKey};
 ghost use Rattle.fiber_pool.specs.Kept.{record_limit, kept_at, sized, with_words, with_kept};
 ghost use Rattle.fiber_queues.specs.Lists.{Leads};
-ghost use Rattle.fiber_runtime.specs.Words.{ReachesBase};
 ghost use Rattle.thumb_code.specs.Machine.{base_of, step as step_of};
 ghost use Rattle.armv6m_machine.specs.Steps.{IsStep};
 ghost use Rattle.board_world.specs.Limits.{seat_limit, raiser_limit, end_limit};
 ghost use Rattle.board_world.specs.Waiting.{least};
 ghost use Rattle.fiber_queues.specs.Calls.{due_woken};
 ghost use Rattle.bank_model.specs.Standing.{IsInside};
-ghost use Rattle.fiber_runtime.specs.Words.{innermost};
-ghost use Rattle.fiber_runtime.specs.State.{running_key};
+ghost use Rattle.fiber_runtime.specs.State.{running_key, ReachesBase, innermost};
 
 use crate::begun::{begun, first_base, main_entry};
 use crate::blocking::{Why, join};
@@ -61,8 +59,7 @@ impl Runtime {
     ghost use Rattle.std.specs.Borrow.{sem};
     ghost use Rattle.fiber_runtime.specs.LendingMachine.{LendsMachine};
     ghost use Rattle.fiber_runtime.specs.declared.turning.Turning.{Turning};
-    ghost use Rattle.fiber_runtime.specs.Moves.{IsIdle, HasMain, Blocked, Adopted, Resumed, Ended, Spawned, Woken, Reinstated, started, restarted, suspended};
-    ghost use Rattle.fiber_runtime.specs.Copying.{Parked, Taken};
+    ghost use Rattle.fiber_runtime.specs.Moves.{IsIdle, HasMain, Blocked, Adopted, Resumed, Ended, Spawned, Woken, Reinstated, started, restarted, suspended, Parked, Taken};
 
     /// Over this machine, with main alone: it begins as the image in flash says, and is ready.
     pub fn new(alloc: Global, machine: Machine) -> Result<Runtime, NoMemory>

@@ -5,10 +5,9 @@ ghost use Rattle.board_world.specs.declared.events.Event.{Event};
 ghost use Rattle.bank_model.specs.Fibers.{begins_on, begins_again};
 ghost use Rattle.fiber_runtime.specs.declared.turning.Turning.{Turning};
 ghost use Rattle.fiber_runtime.specs.declared.turning.Raiser.{Raiser};
-ghost use Rattle.fiber_runtime.specs.State.{State};
+ghost use Rattle.fiber_runtime.specs.State.{State, fiber_raising};
 ghost use Rattle.fiber_runtime.specs.Moves.{Adopted, restarted, suspended, raiser_of, reinstated};
 ghost use Rattle.bank_model.specs.Standing.{fiber_on};
-ghost use Rattle.fiber_runtime.specs.Banks.{fiber_raising};
 ghost use Rattle.fork_on_block.specs.Handlers.{base_for, invoked};
 
 /// A handler that begins is the bank machine's fiber that begins, on the raiser's SP or on word 0 of flash, before it has

@@ -4,13 +4,11 @@ use Rattle.thumb_code.specs.declared.instructions.Instr.{Instr}
 use Rattle.thumb_code.specs.declared.instructions.Instr.TheVariants.{Bx, Blx, Pop, BCond, Svc}
 use Rattle.thumb_code.specs.declared.register_file.Registers.{Registers}
 use Rattle.thumb_code.specs.RegisterFile.{is_odd, listed, filled, word}
-use Rattle.thumb_code.specs.Conditions.{holds}
+use Rattle.thumb_code.specs.Arithmetic.{holds}
 use Rattle.thumb_code.specs.Effect.{effect, Effect, Outcome, Goes, Asks, Stops, jumps, go, target}
 use Rattle.thumb_code.specs.Memory.{Memory, Executed, Done, Asked, Stopped, or_else, first_fault, load_all, finished, execute}
-use Rattle.thumb_code.specs.Step.{Fetched, Found, Missed, fetched, stepped_at, ran}
-use Rattle.thumb_code.specs.Ram.{ram_memory}
-use Rattle.thumb_code.specs.Machine.{State, step}
-use Rattle.thumb_code.specs.Asking.{AsksOnly, ServesOnly}
+use Rattle.thumb_code.specs.Step.{Fetched, Found, Missed, fetched, stepped_at, ran, AsksOnly, ServesOnly}
+use Rattle.thumb_code.specs.Machine.{State, step, ram_memory}
 
 abbrev NeverAsks : Outcome → Type 0
 NeverAsks (Goes r) = Unit {0}

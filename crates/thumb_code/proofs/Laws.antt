@@ -1,6 +1,6 @@
 -- The laws that other crates cite. Beside those below: an effect over a memory that refines another does the same
 -- (refined), and so does a run (runs_follow); SP stays a multiple of 4 (aligned_sp); where a service is asked for, PC alone has changed,
--- by an instruction over any memory (asks_only) and by a step (step_asks_only).
+-- by an instruction over any memory (asks_only) and by a step (step_asks_only); a store into one RAM keeps the base (store_keeps_base).
 use Rattle.std.proofs.Common.{Bool, List, if◌then◌else◌, ◌≡◌, ℕ, ◌+◌, ◌/◌, ◌%◌, ◌<◌, Some, refl, arith, true, false, inl, inr}
 use Rattle.std.proofs.lemmas.Bool.Decides.{nat_tests}
 use Rattle.thumb_code.specs.declared.instructions.Instr.{Instr}
@@ -18,6 +18,7 @@ pub use Rattle.thumb_code.proofs.Asking.{asks_only, step_asks_only}
 pub use Rattle.thumb_code.proofs.Refine.{refined}
 pub use Rattle.thumb_code.proofs.Refines.{over, Refines}
 pub use Rattle.thumb_code.proofs.Runs.{aligned_sp, runs_follow}
+pub use Rattle.thumb_code.proofs.Stores.{store_keeps_base}
 
 -- the first halfword tells whether the instruction is two
 pub is_wide-spelled : (i : Instr) (f s : ℕ) → Fits i → IsSpelling (half i) f s → is_wide f ≡ is_two (half i)

@@ -6,3 +6,4 @@ mod Runs
 mod Spelled
 mod Sums
 mod Worked
+mod Stores

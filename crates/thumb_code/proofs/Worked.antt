@@ -7,14 +7,12 @@ use Rattle.thumb_code.specs.Table.{half}
 use Rattle.thumb_code.specs.Reading.{reading_of}
 use Rattle.thumb_code.specs.Faults.{undefined, unaligned, out_of_map, not_thumb, stack_range, above_base}
 use Rattle.thumb_code.specs.RegisterFile.{listed, listed_from}
-use Rattle.thumb_code.specs.Arithmetic.{sum_flags, inverted, shifted, lsl, lsr, asr, ror}
-use Rattle.thumb_code.specs.Conditions.{holds}
+use Rattle.thumb_code.specs.Arithmetic.{sum_flags, inverted, shifted, lsl, lsr, asr, ror, holds}
 use Rattle.thumb_code.specs.Effect.{effect}
 use Rattle.thumb_code.specs.Memory.{Done, Stopped, execute}
 use Rattle.thumb_code.specs.Map.{access_fault, merged, part}
-use Rattle.thumb_code.specs.Ram.{Ram, ram_memory}
 use Rattle.thumb_code.specs.Step.{Found, Missed, fetched, On, Faulted}
-use Rattle.thumb_code.specs.Machine.{step, reset}
+use Rattle.thumb_code.specs.Machine.{step, reset, Ram, ram_memory}
 
 -- BL to itself, to the instruction behind it, and UDF; CBZ isn't in this architecture
 bl_next : half (Bl (pos 0)) ≡ Two 0xF000 0xF800

@@ -1,7 +1,7 @@
--- Sums, shifts and the flags that they set (ARM DDI 0419, A2.2.1). The flags are a number of four bits: N is 8, Z is 4,
--- C is 2, V is 1.
-use Rattle.std.specs.Prelude.{ℕ, ◌+◌, ◌*◌, ◌/◌, ◌%◌, ◌^◌, ◌-◌, min, Bool, ◌&&◌, ◌==◌, nat_lt, if◌then◌else◌}
-use Rattle.thumb_code.specs.RegisterFile.{word}
+-- Sums, shifts, the flags that they set (ARM DDI 0419, A2.2.1), and the conditions of a branch over these (A6.3, table
+-- A6-1). The flags are a number of four bits: N is 8, Z is 4, C is 2, V is 1.
+use Rattle.std.specs.Prelude.{ℕ, ◌+◌, ◌*◌, ◌/◌, ◌%◌, ◌^◌, ◌-◌, min, [], ◌∷◌, Bool, false, not, ◌&&◌, ◌==◌, nat_lt, if◌then◌else◌, slice_index_or}
+use Rattle.thumb_code.specs.RegisterFile.{word, is_odd}
 
 -- A truth as a bit.
 abbrev pub bit_of : Bool → ℕ
@@ -74,3 +74,17 @@ signed bits v = if nat_lt v (2 ^ (bits - 1)) then v else v + (2 ^ 32 - 2 ^ bits)
 -- The two bytes of a halfword, exchanged.
 abbrev pub swapped : ℕ → ℕ
 swapped v = v % 256 * 256 + v / 256 % 256
+
+-- Both or neither.
+abbrev pub is_same : Bool → Bool → Bool
+is_same a b = if a then b else not b
+
+-- The conditions of even numbers: EQ, CS, MI, VS, HI, GE, GT.
+abbrev pub is_met : ℕ → ℕ → Bool
+is_met flags cond =
+    let n = is_odd (flags / 8) in let z = is_odd (flags / 4) in let c = is_odd (flags / 2) in let v = is_odd flags in
+    slice_index_or (z ∷ c ∷ n ∷ v ∷ (c && not z) ∷ is_same n v ∷ (not z && is_same n v) ∷ []) (cond / 2) false
+
+-- A condition of an odd number is the opposite of the one before it: NE, CC, PL, VC, LS, LT, LE.
+abbrev pub holds : ℕ → ℕ → Bool
+holds flags cond = if is_odd cond then not (is_met flags cond) else is_met flags cond

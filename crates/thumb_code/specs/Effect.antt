@@ -5,8 +5,7 @@ use Rattle.thumb_code.specs.declared.instructions.Instr.TheVariants.{LslImm, Lsr
 use Rattle.thumb_code.specs.declared.register_file.Registers.{Registers}
 use Rattle.thumb_code.specs.Faults.{undefined, breakpoint}
 use Rattle.thumb_code.specs.RegisterFile.{word, is_odd, aligned, low, pc_read, reg, listed, values}
-use Rattle.thumb_code.specs.Arithmetic.{nz, carry, inverted, sum_flags, lsl, lsr, asr, ror, or_32, signed, swapped}
-use Rattle.thumb_code.specs.Conditions.{holds}
+use Rattle.thumb_code.specs.Arithmetic.{nz, carry, inverted, sum_flags, lsl, lsr, asr, ror, or_32, signed, swapped, holds}
 pub use Rattle.thumb_code.specs.Forms.{Outcome, Goes, Asks, Stops, Access, Effect, ends, go, puts, puts_with, flags_are, adds, subs, compares, logic, shifts, moves, jumps, target, access, loads, unsigned, stores, word_accesses, words_to, pushes, pops, stores_many, loads_many}
 
 -- The instruction's effect, where s.pc is its own address and next the one behind it.

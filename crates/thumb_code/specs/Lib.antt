@@ -3,14 +3,10 @@ pub mod Reading
 pub mod Faults
 pub mod RegisterFile
 pub mod Arithmetic
-pub mod Conditions
 pub mod Forms
 pub mod Effect
 pub mod Memory
 pub mod Map
-pub mod Ram
 pub mod Step
 pub mod Machine
-pub mod Asking
 pub mod Run
-pub mod Refines

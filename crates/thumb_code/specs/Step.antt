@@ -1,5 +1,5 @@
--- One step: what stands at PC, and its effect.
-use Rattle.std.specs.Prelude.{ℕ, ◌+◌, List, Bool, true, ◌&&◌, if◌then◌else◌, Option, Some, None}
+-- One step: what stands at PC, and its effect; and what asking for a service leaves as it was.
+use Rattle.std.specs.Prelude.{◌≡◌, ℕ, ◌+◌, List, Bool, true, ◌&&◌, if◌then◌else◌, Option, Some, None}
 use Rattle.thumb_code.specs.declared.instructions.Instr.{Instr}
 use Rattle.thumb_code.specs.declared.register_file.Registers.{Registers}
 use Rattle.thumb_code.specs.Reading.{is_wide, reading_of}
@@ -54,3 +54,13 @@ stepped_at at (Stopped k) = Faulted k at
 abbrev pub ran : {S : Type 0} → (Effect → Executed S) → Registers → Fetched → Stepped S
 ran over s (Found i next) = stepped_at s.pc (over (effect next s i))
 ran over s (Missed k at) = Faulted k at
+
+-- Where a service is asked for, the memory and all registers but PC are as before.
+abbrev pub AsksOnly : {S : Type 0} → Registers → S → Executed S → Type 0
+AsksOnly s m (Asked n r t) = (t ≡ m) × (record r { pc = s.pc } ≡ s)
+AsksOnly s m _ = Unit {0}
+
+-- The same of a step.
+abbrev pub ServesOnly : {S : Type 0} → Registers → S → Stepped S → Type 0
+ServesOnly s m (Served n r t) = (t ≡ m) × (record r { pc = s.pc } ≡ s)
+ServesOnly s m _ = Unit {0}

@@ -4,12 +4,13 @@ use Rattle.thumb_code.specs.declared.register_file.Registers.{Registers}
 use Rattle.thumb_code.specs.Forms.{ends, Goes}
 use Rattle.thumb_code.specs.Map.{stack_at, is_base}
 use Rattle.thumb_code.specs.Step.{Fetched, fetched}
-use Rattle.thumb_code.specs.Run.{Executor, Still, runs, from_step}
-use Rattle.thumb_code.specs.Refines.{over_moving}
-use Rattle.thumb_layout.specs.Holds.{Reads, ComesSilently, Silent}
+use Rattle.thumb_code.specs.Run.{Executor, Still, runs, from_step, over_moving}
+use Rattle.thumb_layout.specs.Holds.{Reads, Silent}
+use Rattle.thumb_layout.proofs.Laws.{ComesSilently}
 use Rattle.bank_model.specs.Bank.{Bank, bank_sp, bank_memory, bank_move}
 use Rattle.thumb_divide.specs.Routine.{HasRoutine}
-use Rattle.thumb_divide.specs.Steady.{IsQuiet, Steps, Within}
+use Rattle.thumb_divide.proofs.Loop.{IsQuiet}
+use Rattle.thumb_divide.specs.Steady.{Steps, Within}
 use Rattle.thumb_divide.specs.Divides.{Divides}
 use Rattle.thumb_divide.specs.Banked.{IsInRegion}
 use Rattle.thumb_divide.proofs.Whole.{divides}

@@ -6,16 +6,20 @@ use Rattle.std.specs.Prelude.{ℤ, pos, negsuc}
 use Rattle.std.specs.Int.{cast_unsigned, w32}
 use Rattle.thumb_code.specs.declared.register_file.Registers.{Registers}
 use Rattle.thumb_code.specs.RegisterFile.{word, is_odd}
-use Rattle.thumb_code.specs.Arithmetic.{sum_flags, inverted, nzc, nz, carry}
-use Rattle.thumb_code.specs.Conditions.{holds}
+use Rattle.thumb_code.specs.Arithmetic.{sum_flags, inverted, nzc, nz, carry, holds}
 use Rattle.thumb_code.specs.Forms.{ends, Goes}
+use Rattle.thumb_code.specs.Memory.{Done}
 use Rattle.thumb_code.specs.Effect.{effect}
 use Rattle.thumb_code.specs.Step.{Fetched, ran, stepped_at}
 use Rattle.thumb_code.specs.Run.{Executor}
 use Rattle.thumb_divide.specs.Routine.{routine, HoldsRoutine}
-use Rattle.thumb_divide.specs.Steady.{IsQuiet, One, Steps, Within}
+use Rattle.thumb_divide.specs.Steady.{One, Steps, Within}
 use Rattle.thumb_divide.proofs.Signed.{minus}
 use Rattle.thumb_divide.proofs.Sums.{carry_is, cc_below, cc_not, ne_last, ne_more, pl_pos, pl_neg, eq_not, Round, round_less, round_more, round_last}
+
+-- over this memory, at this SP, an effect without accesses that leaves SP changes the registers alone
+abbrev pub IsQuiet : {S : Type 0} → Executor S → S → ℕ → Type 0
+IsQuiet over t sp = (r q : Registers) → r.sp ≡ sp → q.sp ≡ sp → over r t (ends q.sp (Goes q)) ≡ Done q t
 
 module _ {S : Type 0} (over : Executor S) (fetch : ℕ → Fetched) (t : S) (sp lr at : ℕ) (quiet : IsQuiet over t sp) (code : HoldsRoutine fetch at) (x4 x5 x6 x7 x8 x9 x10 x11 : ℕ) where
   abbrev st : (i flags a d r j h : ℕ) → Registers

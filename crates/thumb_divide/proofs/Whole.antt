@@ -7,12 +7,12 @@ use Rattle.thumb_code.specs.declared.register_file.Registers.{Registers}
 use Rattle.thumb_code.specs.RegisterFile.{is_odd, low}
 use Rattle.thumb_code.specs.Step.{Fetched}
 use Rattle.thumb_code.specs.Run.{Executor}
-use Rattle.bank_model.specs.Division.{quotient, remainder}
+use Rattle.bank_model.specs.AllServices.{quotient, remainder}
 use Rattle.thumb_divide.specs.Routine.{HoldsRoutine}
-use Rattle.thumb_divide.specs.Steady.{IsQuiet, Within}
+use Rattle.thumb_divide.specs.Steady.{Within}
 use Rattle.thumb_divide.specs.Divides.{Called, Divided, Divides}
 use Rattle.thumb_divide.proofs.Signed.{minus, is_pos, is_neg, quot_pp, quot_pn, quot_np, quot_nn, rem_pp, rem_pn, rem_np, rem_nn}
-use Rattle.thumb_divide.proofs.Loop.{both_up, divisor_below, dividend_below, both_below, by_zero}
+use Rattle.thumb_divide.proofs.Loop.{IsQuiet, both_up, divisor_below, dividend_below, both_below, by_zero}
 
 abbrev Quotient : ℕ → ℕ → ℕ
 Quotient x y = cast_unsigned w32 (quotient (cast_signed w32 x) (cast_signed w32 y))

@@ -5,7 +5,7 @@ use Rattle.thumb_code.specs.declared.register_file.Registers.{Registers}
 use Rattle.thumb_code.specs.RegisterFile.{low, is_odd}
 use Rattle.thumb_code.specs.Step.{Fetched}
 use Rattle.thumb_code.specs.Run.{Executor}
-use Rattle.bank_model.specs.Division.{quotient, remainder}
+use Rattle.bank_model.specs.AllServices.{quotient, remainder}
 use Rattle.thumb_divide.specs.Routine.{most_instructions}
 use Rattle.thumb_divide.specs.Steady.{Within}
 

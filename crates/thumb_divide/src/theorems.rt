@@ -2,7 +2,7 @@
 ghost use Rattle.std.specs.Prelude.{◌≡◌, ℕ, ◌+◌, ◌%◌, ◌<◌, ◌≤◌, List, slice_index, true};
 ghost use Rattle.thumb_code.specs.Map.{flash_byte, flash_end, is_base};
 ghost use Rattle.thumb_code.specs.Step.{fetched};
-ghost use Rattle.thumb_code.specs.Refines.{over_moving};
+ghost use Rattle.thumb_code.specs.Run.{over_moving};
 ghost use Rattle.bank_model.specs.Bank.{Bank, bank_sp, bank_memory, bank_move};
 ghost use Rattle.thumb_divide.specs.Routine.{routine_bytes, routine_length, HasRoutine, HoldsRoutine};
 ghost use Rattle.thumb_divide.specs.Divides.{Divides};

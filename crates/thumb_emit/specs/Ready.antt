@@ -14,7 +14,7 @@ use Rattle.thumb_code.specs.declared.instructions.Instr.TheVariants.{MovHigh, Cm
 use Rattle.thumb_layout.specs.declared.pieces.Piece.{Piece}
 use Rattle.thumb_layout.specs.declared.pieces.Piece.TheVariants.{Plain, Number}
 use Rattle.thumb_emit.specs.Frame.{words}
-use Rattle.thumb_emit.specs.Emit.{get, its_register, bring, made_in, keep, land, op_pieces, ops_pieces, entry_pieces, unless, at_least_unsigned, tests_null, tests_index, finds_item}
+use Rattle.thumb_emit.specs.Emit.{get, its_register, bring, made_in, keep, land, op_pieces, entry_pieces, unless, at_least_unsigned, tests_null, tests_index, finds_item}
 
 -- the function is well formed, and its places are sound
 pub record IsReady (p : Placed) : Type 0 where
@@ -73,9 +73,6 @@ landed p = land p.function (place_of p.places)
 
 abbrev pub pieces_of : Placed → ℕ → Op → List Piece
 pieces_of p = op_pieces p.function (place_of p.places)
-
-abbrev pub rest_of : Placed → ℕ → List Op → List Piece
-rest_of p = ops_pieces p.function (place_of p.places)
 
 abbrev pub entry_of : Placed → List Piece
 entry_of p = entry_pieces p.function (place_of p.places)

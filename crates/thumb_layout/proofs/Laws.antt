@@ -7,8 +7,7 @@ use Rattle.thumb_code.specs.RegisterFile.{word}
 use Rattle.thumb_code.specs.Memory.{Memory, execute_moving}
 use Rattle.thumb_code.specs.Map.{is_base, flash_end, flash_word}
 use Rattle.thumb_code.specs.Step.{fetched}
-use Rattle.thumb_code.specs.Run.{Executor}
-use Rattle.thumb_code.specs.Refines.{over_moving}
+use Rattle.thumb_code.specs.Run.{Executor, over_moving}
 use Rattle.thumb_layout.specs.declared.pieces.What.{What}
 use Rattle.thumb_layout.specs.declared.pieces.Piece.{Piece}
 use Rattle.thumb_layout.specs.declared.pieces.Piece.TheVariants.{Plain}
@@ -20,6 +19,7 @@ use Rattle.thumb_layout.proofs.Meaning.{laid_means}
 use Rattle.thumb_layout.proofs.Holding.{code_holds}
 use Rattle.thumb_layout.proofs.Soundness.{sound_ignores}
 pub use Rattle.thumb_layout.proofs.Meaning.{holds_opposite, silent_add, silent_one, laid_means, reaches_none, reaches_add, piece_goes, label_goes}
+pub use Rattle.thumb_layout.proofs.Silent.{ComesSilently}
 pub use Rattle.thumb_layout.proofs.Holding.{code_holds}
 pub use Rattle.thumb_layout.proofs.Soundness.{sound_ignores}
 pub use Rattle.thumb_layout.proofs.Fixing.{fixes_called, fixes_named, fixes_apart}

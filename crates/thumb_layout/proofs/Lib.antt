@@ -15,3 +15,4 @@ pub mod Holding
 pub mod Soundness
 pub mod Fixing
 pub mod Laws
+mod Silent

@@ -5,7 +5,7 @@ use Rattle.thumb_code.specs.declared.instructions.Instr.{Instr}
 use Rattle.thumb_code.specs.declared.instructions.Instr.TheVariants.{MovImm, BCond, B, Bl}
 use Rattle.thumb_code.specs.declared.register_file.Registers.{Registers}
 use Rattle.thumb_code.specs.RegisterFile.{is_odd}
-use Rattle.thumb_code.specs.Conditions.{holds, is_met}
+use Rattle.thumb_code.specs.Arithmetic.{holds, is_met}
 use Rattle.thumb_code.specs.Effect.{Effect, effect, go, puts_with}
 use Rattle.thumb_code.specs.Memory.{Done}
 use Rattle.thumb_code.specs.Step.{Fetched, Found, Stepped, On, Served, Faulted, stepped_at, ran}
@@ -14,7 +14,8 @@ use Rattle.thumb_layout.specs.declared.pieces.Piece.{Piece}
 use Rattle.thumb_layout.specs.declared.pieces.Piece.TheVariants.{Plain, Label, Go, CallTo, Number, Address}
 use Rattle.thumb_layout.specs.Pieces.{Places, piece_effect}
 use Rattle.thumb_layout.specs.Cells.{opposite}
-use Rattle.thumb_layout.specs.Holds.{moved, Enters, AtOnce, Over, Branches, Short, Middle, Far, Always, AlwaysFar, loaded_from, Loads, Small, Large, PieceAt, Holds, Reads, IgnoresPc, cost, Silent, Means, ComesSilently}
+use Rattle.thumb_layout.specs.Holds.{moved, Enters, AtOnce, Over, Branches, Short, Middle, Far, Always, AlwaysFar, loaded_from, Loads, Small, Large, PieceAt, Holds, Reads, IgnoresPc, cost, Silent, Means}
+use Rattle.thumb_layout.proofs.Silent.{ComesSilently}
 
 abbrev still_registers : {S : Type 0} → Registers → Ran S → Registers
 still_registers d (Still q t) = q

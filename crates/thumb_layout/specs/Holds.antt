@@ -111,11 +111,3 @@ pub record Means {S : Type 0} (over : Executor S) (fetch : ℕ → Fetched) (p :
   pub last : Registers
   pub silent : Silent over fetch before s t last t
   pub does : ran (over last t) last (fetch last.pc) ≡ stepped_at last.pc (over s t (piece_effect p i s x))
-
--- From one state to another in at least and at most so many silent instructions.
-pub record ComesSilently {S : Type 0} (over : Executor S) (fetch : ℕ → Fetched) (least most : ℕ) (s : Registers) (t : S)
-    (s' : Registers) (t' : S) : Type 0 where
-  pub count : ℕ
-  pub some : least ≤ count
-  pub few : count ≤ most
-  pub silent : Silent over fetch count s t s' t'

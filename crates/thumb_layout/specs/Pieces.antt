@@ -4,8 +4,7 @@ use Rattle.thumb_code.specs.declared.instructions.Instr.{Instr}
 use Rattle.thumb_code.specs.declared.instructions.Instr.TheVariants.{AddHigh, MovHigh, Bx, Pop}
 use Rattle.thumb_code.specs.declared.register_file.Registers.{Registers}
 use Rattle.thumb_code.specs.RegisterFile.{word}
-use Rattle.thumb_code.specs.Arithmetic.{nz}
-use Rattle.thumb_code.specs.Conditions.{holds}
+use Rattle.thumb_code.specs.Arithmetic.{nz, holds}
 use Rattle.thumb_code.specs.Effect.{Effect, effect, go, puts_with}
 use Rattle.thumb_layout.specs.declared.pieces.What.{What}
 use Rattle.thumb_layout.specs.declared.pieces.Piece.{Piece}

@@ -11,9 +11,8 @@ use Rattle.thumb_code.specs.Step.{Fetched, Found, Missed, Stepped, On, Served, F
 use Rattle.fiber_pool.specs.Kept.{Kept, kept_at, or_unused, sized, with_words}
 use Rattle.fiber_runtime.specs.declared.turning.Turning.{Turning}
 use Rattle.fiber_runtime.specs.declared.blocking.Why.{Why}
-use Rattle.fiber_runtime.specs.Moves.{BlocksWith}
+use Rattle.fiber_runtime.specs.Moves.{BlocksWith, Parked}
 use Rattle.fiber_runtime.specs.State.{State, running_key}
-use Rattle.fiber_runtime.specs.Copying.{Parked}
 use Rattle.thumb_switch.specs.Space.{Space, space_memory, fetched_in, step_in, executed, behind_step, back_at, record_at, called, switched, most_instructions}
 use Rattle.thumb_switch.specs.Desk.{words_of, on_desk}
 use Rattle.thumb_switch.specs.Running.{put, IsKnown}

@@ -4,10 +4,8 @@ use Rattle.slab.specs.Slab.{Slab, get, with_value, ContainsKey}
 use Rattle.thumb_code.specs.declared.register_file.Registers.{Registers}
 use Rattle.fiber_pool.specs.Kept.{Kept, kept_at, or_unused}
 use Rattle.fiber_queues.specs.Lists.{ListsOf, Leads}
-use Rattle.fiber_runtime.specs.State.{State}
-use Rattle.fiber_runtime.specs.Words.{ReachesBase}
-use Rattle.fiber_runtime.specs.Moves.{turning_of}
-use Rattle.fiber_runtime.specs.Copying.{Taken}
+use Rattle.fiber_runtime.specs.State.{State, ReachesBase}
+use Rattle.fiber_runtime.specs.Moves.{turning_of, Taken}
 use Rattle.thumb_switch.specs.Space.{Space, executed, record_at, called, most_instructions}
 use Rattle.thumb_switch.specs.Desk.{words_of, on_desk}
 use Rattle.thumb_switch.specs.Running.{put, IsKnown}

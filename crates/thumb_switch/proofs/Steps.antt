@@ -6,8 +6,7 @@ use Rattle.thumb_code.specs.declared.instructions.Instr.{Instr}
 use Rattle.thumb_code.specs.declared.instructions.Instr.TheVariants.{SubImm8, AddImm8, BCond, Ldm, Stm, Bx}
 use Rattle.thumb_code.specs.declared.register_file.Registers.{Registers}
 use Rattle.thumb_code.specs.RegisterFile.{word, listed, listed_from}
-use Rattle.thumb_code.specs.Arithmetic.{sum_flags, inverted, bit_of}
-use Rattle.thumb_code.specs.Conditions.{holds}
+use Rattle.thumb_code.specs.Arithmetic.{sum_flags, inverted, bit_of, holds}
 use Rattle.thumb_code.specs.Forms.{Outcome, Goes, ends, word_accesses, words_to}
 use Rattle.thumb_code.specs.Effect.{effect}
 use Rattle.thumb_code.specs.Memory.{execute, finished}

@@ -13,10 +13,8 @@ use Rattle.fiber_pool.specs.Kept.{Kept, kept_at, or_unused, sized}
 use Rattle.fiber_queues.specs.Lists.{ListsOf, Leads}
 use Rattle.fiber_runtime.specs.declared.turning.Turning.{Turning}
 use Rattle.fiber_runtime.specs.declared.blocking.Why.{Why}
-use Rattle.fiber_runtime.specs.Words.{ReachesBase, kept_of}
-use Rattle.fiber_runtime.specs.State.{State}
-use Rattle.fiber_runtime.specs.Moves.{Blocked, Put, Resumed, joined, turning_of}
-use Rattle.fiber_runtime.specs.Copying.{Taken}
+use Rattle.fiber_runtime.specs.State.{State, ReachesBase, kept_of}
+use Rattle.fiber_runtime.specs.Moves.{Blocked, Put, Resumed, joined, turning_of, Taken}
 use Rattle.fiber_runtime.proofs.Laws.{taken_is_resumed}
 use Rattle.thumb_switch.specs.Routine.{routine_bytes, routine_steps}
 use Rattle.thumb_switch.specs.Space.{Space, record_at, switched}

@@ -5,8 +5,7 @@ use Rattle.thumb_code.specs.Machine.{State as Machine}
 use Rattle.fiber_pool.specs.Kept.{Kept, kept_at, sized}
 use Rattle.fiber_runtime.specs.declared.turning.Turning.{Turning}
 use Rattle.fiber_runtime.specs.declared.blocking.Why.{Why}
-use Rattle.fiber_runtime.specs.Words.{ReachesBase, kept_of}
-use Rattle.fiber_runtime.specs.State.{State}
+use Rattle.fiber_runtime.specs.State.{State, ReachesBase, kept_of}
 use Rattle.fiber_runtime.specs.Moves.{joined, turning_of}
 use Rattle.thumb_switch.specs.Space.{Space, Executed, record_at, switched}
 

@@ -1,5 +1,5 @@
 use Rattle.std.proofs.Common.{◌≡◌, ◌*◌, ◌+◌, length, length-append, arith}
-use Rattle.armv6m_machine.specs.Slots.{IsSlot}
+use Rattle.armv6m_machine.specs.Steps.{IsSlot}
 use Rattle.armv6m_machine.proofs.Slots.{slots_more}
 use Rattle.armv6m_machine.proofs.flash.slots_of.Goals as goal
 

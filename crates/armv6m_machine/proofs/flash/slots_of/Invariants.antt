@@ -1,5 +1,5 @@
 use Rattle.std.proofs.Common.{◌≡◌, length}
-use Rattle.armv6m_machine.specs.Slots.{AreSlots}
+use Rattle.armv6m_machine.specs.Steps.{AreSlots}
 use Rattle.armv6m_machine.proofs.flash.slots_of.Given as goal
 
 abbrev pub invariant-loop-k : goal.invariant-loop-k

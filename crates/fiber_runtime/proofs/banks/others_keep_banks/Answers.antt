@@ -1,7 +1,7 @@
 use Rattle.std.proofs.Common.{refl, ◌≡◌, ℕ, zero, suc, ◌∙◌, sym, arith}
 use Rattle.board_world.specs.Waiting.{chosen, hears}
 use Rattle.fiber_queues.specs.Keys.{how_often}
-use Rattle.fiber_runtime.specs.Banks.{fiber_at}
+use Rattle.fiber_runtime.specs.State.{fiber_at}
 use Rattle.fiber_runtime.proofs.Fibers.{fiber_found, raisers_same}
 use Rattle.fiber_runtime.proofs.Frame.{step_kept}
 use Rattle.fiber_runtime.proofs.banks.others_keep_banks.Goals as goal

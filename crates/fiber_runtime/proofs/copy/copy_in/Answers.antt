@@ -3,7 +3,7 @@ use Rattle.std.proofs.lemmas.Bool.Decides.{nat_tests}
 use Rattle.thumb_code.specs.declared.register_file.Registers.{Registers}
 use Rattle.thumb_code.specs.Machine.{State as Machine}
 use Rattle.fiber_pool.specs.Kept.{Kept}
-use Rattle.fiber_runtime.specs.Words.{ReachesBase}
+use Rattle.fiber_runtime.specs.State.{ReachesBase}
 use Rattle.fiber_runtime.proofs.Copied.{holds_copied}
 use Rattle.fiber_runtime.proofs.copy.copy_in.Goals.{then-words-eq0, else-words-eq0}
 use Rattle.fiber_runtime.proofs.copy.copy_in.Goals as goal

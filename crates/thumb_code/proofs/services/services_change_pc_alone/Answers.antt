@@ -1,4 +1,4 @@
-use Rattle.thumb_code.specs.Ram.{ram_memory}
+use Rattle.thumb_code.specs.Machine.{ram_memory}
 use Rattle.thumb_code.proofs.Asking.{asks_only, step_asks_only}
 use Rattle.thumb_code.proofs.services.services_change_pc_alone.Goals as goal
 

@@ -4,7 +4,7 @@ use Rattle.thumb_switch.specs.Desk.{on_desk}
 use Rattle.thumb_switch.specs.Running.{IsKnown}
 use Rattle.thumb_code.specs.Effect.{effect}
 use Rattle.thumb_code.specs.Step.{behind}
-use Rattle.armv6m_machine.specs.Turns.{Does}
+use Rattle.armv6m_machine.specs.Steps.{Does}
 use Rattle.armv6m_machine.specs.declared.faults.Turn.TheVariants.{Went}
 use Rattle.thumb_switch.specs.Desk.{desk_memory}
 use Rattle.thumb_switch.proofs.Going.{went, one_more, no_more, none_at, missed_stops, stayed, all_done}

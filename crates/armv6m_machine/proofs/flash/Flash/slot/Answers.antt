@@ -1,5 +1,5 @@
 use Rattle.std.proofs.Common.{◌≡◌, ◌+◌, ◌*◌, ◌/◌, ℕ, List, None, arith, sym, ap, ◌∙◌, subst, get_or}
-use Rattle.armv6m_machine.specs.Slots.{IsSlot}
+use Rattle.armv6m_machine.specs.Steps.{IsSlot}
 use Rattle.armv6m_machine.proofs.Slots.{slot_at}
 use Rattle.armv6m_machine.proofs.flash.Flash.slot.Goals as goal
 

@@ -1,6 +1,6 @@
 use Rattle.std.proofs.Common.{◌≡◌, ◌∙◌, ℕ, List, refl, ap}
 use Rattle.thumb_code.specs.Map.{flash_word}
-use Rattle.thumb_code.specs.Ram.{Ram}
+use Rattle.thumb_code.specs.Machine.{Ram}
 use Rattle.armv6m_machine.proofs.mapped_memory.MappedMemory.reset.Goals as goal
 
 abbrev ram : List ℕ → List ℕ → List ℕ → List ℕ → ℕ → Ram

@@ -1,4 +1,4 @@
-use Rattle.bank_model.specs.Division.{quotient}
+use Rattle.bank_model.specs.AllServices.{quotient}
 use Rattle.board_run.proofs.AskServices.{serve_divide, two_args, cast_back}
 use Rattle.board_run.proofs.engine.Engine.divide.Goals as goal
 

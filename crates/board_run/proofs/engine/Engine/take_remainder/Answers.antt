@@ -1,4 +1,4 @@
-use Rattle.bank_model.specs.Division.{remainder}
+use Rattle.bank_model.specs.AllServices.{remainder}
 use Rattle.board_run.proofs.AskServices.{serve_remainder, two_args, cast_back}
 use Rattle.board_run.proofs.engine.Engine.take_remainder.Goals as goal
 

@@ -2,8 +2,7 @@ use Rattle.std.proofs.Common.{◌≡◌, ℕ, ◌+◌, ◌*◌, Option, Some, No
 use Rattle.slab.specs.Slab.{Updates}
 use Rattle.fiber_pool.specs.Kept.{Kept, kept_at}
 use Rattle.bank_model.specs.Standing.{IsInside}
-use Rattle.fiber_runtime.specs.State.{State, running_key}
-use Rattle.fiber_runtime.specs.Words.{kept_of}
+use Rattle.fiber_runtime.specs.State.{State, running_key, kept_of}
 use Rattle.fiber_runtime.proofs.Sound.{sound_laid, updates_twice}
 use Rattle.fiber_runtime.proofs.runtime.Runtime.park.Goals as goal
 

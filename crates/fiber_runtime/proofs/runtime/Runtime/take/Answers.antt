@@ -4,7 +4,7 @@ use Rattle.thumb_code.specs.Machine.{State as Machine}
 use Rattle.fiber_pool.specs.Kept.{Kept}
 use Rattle.fiber_queues.specs.Lists.{ListsOf, Leads}
 use Rattle.fiber_runtime.specs.State.{State}
-use Rattle.fiber_runtime.specs.Copying.{Taken}
+use Rattle.fiber_runtime.specs.Moves.{Taken}
 use Rattle.fiber_runtime.proofs.Sound.{next_fits}
 use Rattle.fiber_runtime.proofs.runtime.Runtime.take.Goals as goal
 

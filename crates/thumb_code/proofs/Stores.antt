@@ -1,8 +1,8 @@
 -- What a store into one RAM leaves.
 use Rattle.std.proofs.Common.{◌≡◌, ℕ, refl, Bool, true, false, cond, nat_lt}
-use Rattle.thumb_code.specs.Forms.{Access}
+use Rattle.thumb_code.specs.Effect.{Access}
 use Rattle.thumb_code.specs.Map.{arena_at, stack_at}
-use Rattle.thumb_code.specs.Ram.{Ram, ram_store}
+use Rattle.thumb_code.specs.Machine.{Ram, ram_store}
 
 base_of_cases : (b c : Bool) (x y z : Ram) (n : ℕ) → x.base ≡ n → y.base ≡ n → z.base ≡ n
     → (cond b x (cond c y z)).base ≡ n

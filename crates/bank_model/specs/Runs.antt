@@ -1,5 +1,6 @@
--- Instructions on which the free words have no bearing, and the bank machine that stops at any other.
-use Rattle.std.specs.Prelude.{ℕ, List, Bool, true, false, ◌&&◌, ◌||◌, nat_lt, nat_le, if◌then◌else◌}
+-- Runs of the bank machine of which laws speak: with one fiber, of small images, and of an image on which the free words have no
+-- bearing, which is watched and stops at any other instruction.
+use Rattle.std.specs.Prelude.{ℕ, ◌/◌, ◌%◌, pos, List, [], ◌∷◌, ◌++◌, Bool, true, false, ◌&&◌, ◌||◌, nat_lt, nat_le, if◌then◌else◌, Some, None}
 use Rattle.std.specs.List.{list_all}
 use Rattle.thumb_code.specs.declared.instructions.Instr.{Instr}
 use Rattle.thumb_code.specs.declared.instructions.Instr.TheVariants.{Push}
@@ -8,14 +9,48 @@ use Rattle.thumb_code.specs.Effect.{Access, Effect, effect}
 use Rattle.thumb_code.specs.Map.{stack_at}
 use Rattle.thumb_code.specs.Machine.{main_of}
 use Rattle.thumb_code.specs.Step.{Fetched, Found, Missed, fetched}
-use Rattle.board_world.specs.Board.{Entry}
+use Rattle.board_world.specs.Observations.{ByteList, Observation, End}
+use Rattle.board_world.specs.Board.{Board, Entry, start_board, transcript_of}
 use Rattle.board_world.specs.Kinds.{Kind, Turn, Faults}
 use Rattle.board_world.specs.Activities.{World}
 use Rattle.board_world.specs.World.{start}
 use Rattle.board_world.specs.Runs.{run}
 use Rattle.bank_model.specs.Bank.{Bank, is_own}
 use Rattle.bank_model.specs.Fibers.{Fiber, Shared, shared_at_reset}
-use Rattle.bank_model.specs.BoardMachine.{memory_of, fiber_turn, fibers}
+use Rattle.bank_model.specs.BoardMachine.{memory_of, fiber_turn, fibers, bank_run}
+
+-- Main's fiber is the only one and goes on, on a script without entries that ends at `until`; this was seen.
+abbrev pub single : ℕ → List Observation → Fiber → Shared → World Fiber Shared
+single until seen f s =
+    record {
+      board = record (start_board until []) { seen = seen };
+      shared = s;
+      listeners = [];
+      ready = record { self = f; value = pos 0; listener = None; seated = true; suspended = false } ∷ [];
+      sleepers = [];
+      waiters = [];
+    }
+
+-- The board where such a run has ended so at the start, after this was seen, with so many seats taken.
+abbrev pub ended : ℕ → List Observation → ℕ → End → Board
+ended until seen seats end = record (start_board until []) { seen = seen; seats = seats; end = Some end }
+
+-- The bytes of halfwords, low byte first.
+abbrev pub code : List ℕ → List ℕ
+code [] = []
+code (h ∷ hs) = h % 256 ∷ (h / 256 ∷ code hs)
+
+-- An image with base 0x20003F80, whose main begins at address 12, with these halfwords from there on.
+abbrev pub image : List ℕ → List ℕ
+image halves = code (0x3F80 ∷ 0x2000 ∷ 0x000D ∷ 0 ∷ 0x000D ∷ 0 ∷ []) ++ code halves
+
+-- What is written in n instructions on an empty script that ends at 1000 ms, with these free words.
+abbrev pub written : ℕ → List ℕ → List ℕ → ByteList
+written n free bytes = transcript_of (bank_run bytes 1000 [] free n).board
+
+-- What is written in n instructions on a script that ends at 1000 ms, without free words.
+abbrev pub written_with : ℕ → List Entry → List ℕ → ByteList
+written_with n script bytes = transcript_of (bank_run bytes 1000 script [] n).board
 
 -- The access loads no free word: it is outside the stack region, or in the bank.
 abbrev pub is_plain : Bank → Access → Bool
