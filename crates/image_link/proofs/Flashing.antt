@@ -23,7 +23,8 @@ use Rattle.thumb_layout.specs.Openings.{called, callees, addressed, StandApart}
 use Rattle.thumb_layout.proofs.Laws.{fixes_called, fixes_named}
 use Rattle.thumb_emit.specs.InFlash.{Addresses, IsNamed, callee_at, word_for}
 use Rattle.image_link.specs.Image.{is_named, is_this_text, opened, slot_words, AreFilled}
-use Rattle.image_link.specs.inner.Written.{names_text, IsPlace}
+use Rattle.image_link.specs.inner.{IsPlace}
+use Rattle.image_link.proofs.Written.{names_text}
 use Rattle.image_link.proofs.NamedTexts.{or_true, named_in}
 use Rattle.image_link.proofs.Showing.{bl_reaches, apart_outside, apart_within}
 

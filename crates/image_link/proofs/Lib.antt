@@ -1,4 +1,5 @@
 pub mod Lists
+pub mod Written
 pub mod SectionKinds
 pub mod Placing
 pub mod Standing

@@ -3,7 +3,7 @@ use Rattle.std.proofs.Common.{◌≡◌, ℕ, suc, ◌+◌, ◌-◌, ◌*◌, �
 use Rattle.std.specs.Prelude.{replicate, map}
 use Rattle.std.specs.List.{AllByRecursion, enumerate_from, filter}
 use Rattle.std.proofs.lemmas.List.{length-map, get_or_past, get_or_default, get_or_append_left, get_or-append-add, get_or-replicate}
-use Rattle.thumb_code.specs.Map.{flash_byte}
+use Rattle.thumb_code.specs.Map.{flash_byte, flash_end}
 use Rattle.flat_ir.specs.declared.ops.FlatClass.{FlatClass}
 use Rattle.flat_ir.specs.declared.ops.FlatCode.{FlatCode}
 use Rattle.thumb_layout.specs.declared.laid.Laid.{Laid}
@@ -11,10 +11,10 @@ use Rattle.thumb_layout.specs.Layout.{up}
 use Rattle.thumb_divide.specs.Routine.{routine_bytes, routine_length}
 use Rattle.image_link.specs.Image.{head_length, head, class_table, text_bytes, is_named, Section, sections, StandBehind, IsLinked}
 use Rattle.image_link.proofs.SectionKinds.{routine_section, code_sections, table_sections}
-use Rattle.image_link.specs.inner.Parts.{padded, with_parts, end_with, starts, end_behind}
-use Rattle.image_link.specs.inner.Written.{AreFixesOf, code_lengths, class_lengths, text_lengths, routine_end, class_end, addresses, parts, written_bytes}
+use Rattle.image_link.specs.inner.{padded, end_with, starts}
+use Rattle.image_link.proofs.Written.{with_parts, end_behind, AreFixesOf, code_lengths, class_lengths, text_lengths, routine_end, class_end, image_end, addresses, parts, written_bytes}
 use Rattle.image_link.proofs.Standing.{lengths, length_padded, length_part, length_starts, before_parts}
-use Rattle.image_link.proofs.Whole.{all_lengths, parts_long}
+use Rattle.image_link.proofs.Whole.{all_lengths, parts_long, image_long}
 use Rattle.image_link.proofs.Lists.{all_get}
 use Rattle.image_link.proofs.Showing.{function_there}
 use Rattle.image_link.proofs.Sections.{head_stands, code_stands, routine_stands, class_stands, text_stands}
@@ -116,3 +116,7 @@ linked ls C ts fixed =
       no_class = λ c l. past (routine_end ls) (class_lengths C.classes) (length C.classes) c (length-map C.classes (λ (q : FlatClass). Some (4 + 4 * length q.slots))) l;
       no_text = λ i l. past (class_end ls C.classes) (text_lengths ls 0 ts) (length ts) i (texts_many ls 0 ts) l;
     }
+
+-- An image that is too long is one, too.
+pub too_long : (ls : List Laid) (C : FlatCode) (ts : List (List ℕ)) → AllByRecursion AreFixesOf ls → flash_end < image_end ls C.classes ts → (image : List ℕ) × IsLinked ls C ts image × (flash_end < length image)
+too_long ls C ts fixed l = (written_bytes ls C ts, linked ls C ts fixed, subst (λ (n : ℕ). flash_end < n) (sym (image_long ls C ts)) l)

@@ -8,7 +8,7 @@ use Rattle.thumb_layout.specs.declared.pieces.What.TheVariants.{Function, Text, 
 use Rattle.thumb_layout.specs.declared.laid.Fix.{Fix}
 use Rattle.thumb_layout.specs.declared.laid.Laid.{Laid}
 use Rattle.image_link.specs.Image.{is_this_text, is_named}
-use Rattle.image_link.specs.inner.Written.{names_text}
+use Rattle.image_link.proofs.Written.{names_text}
 
 pub or_true : (b : Bool) → (b || true) ≡ true
 or_true true = refl

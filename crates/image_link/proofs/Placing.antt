@@ -2,7 +2,8 @@
 use Rattle.std.proofs.Common.{◌≡◌, ℕ, ◌+◌, ◌<◌, ◌≤◌, List, [], ◌∷◌, ◌++◌, length, drop, refl, sym, ap, ◌∙◌, subst, arith, Option, Some, None, get_or, append_assoc, drop-cons, add-one}
 use Rattle.thumb_code.specs.Map.{flash_end}
 use Rattle.thumb_layout.specs.Layout.{up}
-use Rattle.image_link.specs.inner.Parts.{end_with, starts, end_behind}
+use Rattle.image_link.specs.inner.{end_with, starts}
+use Rattle.image_link.proofs.Written.{end_behind}
 
 -- an end is behind what it is put behind
 pub with_grows : (end : ℕ) (n : Option ℕ) → end ≤ end_with end n

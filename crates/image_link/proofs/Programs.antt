@@ -26,8 +26,8 @@ use Rattle.thumb_emit.specs.Emit.{division}
 use Rattle.thumb_emit.specs.InFlash.{Addresses, IsNamed, callee_at, word_for, ShowsFunction, ShowsClass, ShowsText, InFlash}
 use Rattle.image_link.specs.Image.{base, head_length, head, opened, class_table, slot_words, text_bytes, is_named, HasBytes, AreFilled, Section, sections, StandBehind}
 use Rattle.image_link.proofs.SectionKinds.{code_section, routine_section, table_section, text_section, code_sections, table_sections, text_sections}
-use Rattle.image_link.specs.Shown.{IsImaged}
-use Rattle.image_link.specs.inner.Written.{IsPlace}
+use Rattle.image_link.specs.Linkable.{IsImaged}
+use Rattle.image_link.specs.inner.{IsPlace}
 use Rattle.image_link.proofs.Lists.{all_more, all_split, all_append, all_of_map, map_of_all, all_get, numbered_get, get_numbered, chosen_get, get_chosen}
 use Rattle.image_link.proofs.NamedTexts.{IsHere, code_here}
 use Rattle.image_link.proofs.Behind.{IsBehind, each_behind, rest_behind, Between, Throughout, covered, texts_order}

@@ -9,9 +9,9 @@ use Rattle.thumb_layout.specs.declared.laid.Laid.{Laid}
 use Rattle.thumb_layout.specs.Layout.{up}
 use Rattle.thumb_divide.specs.Routine.{routine_bytes, routine_length}
 use Rattle.thumb_emit.specs.InFlash.{Addresses}
-use Rattle.image_link.specs.inner.Parts.{padded, with_parts, starts, end_behind}
+use Rattle.image_link.specs.inner.{padded, starts, filled}
+use Rattle.image_link.proofs.Written.{with_parts, end_behind, code_end, routine_end, class_end, addresses, code_parts, class_parts, text_parts, parts, written_bytes}
 use Rattle.image_link.specs.Image.{head_length, head, is_named, class_table, text_bytes}
-use Rattle.image_link.specs.inner.Written.{code_end, routine_end, class_end, addresses, filled, code_parts, class_parts, text_parts, parts, written_bytes}
 use Rattle.image_link.proofs.Standing.{lengths, length_padded, length_parts, with_append, before_parts, part_stands, part_stands_before}
 use Rattle.image_link.proofs.Whole.{filled_long, code_long, classes_long, texts_long}
 

@@ -23,7 +23,8 @@ use Rattle.thumb_layout.proofs.Laws.{fixes_apart}
 use Rattle.thumb_emit.specs.InFlash.{Addresses}
 use Rattle.image_link.specs.Image.{opened, AreFilled, HasFunction}
 use Rattle.image_link.specs.Linkable.{IsFixOf}
-use Rattle.image_link.specs.inner.Written.{AreFixesOf, filled}
+use Rattle.image_link.specs.inner.{filled}
+use Rattle.image_link.proofs.Written.{AreFixesOf}
 use Rattle.image_link.proofs.Whole.{filled_long}
 
 -- a branch of 25 bits leads to its target

@@ -17,10 +17,10 @@ use Rattle.thumb_layout.specs.Cells.{laid}
 use Rattle.thumb_layout.specs.Openings.{named, addressed}
 use Rattle.thumb_layout.proofs.Laws.{fixes_named}
 use Rattle.thumb_emit.specs.InFlash.{IsNamed}
-use Rattle.image_link.specs.inner.Parts.{end_with, end_behind}
+use Rattle.image_link.specs.inner.{end_with}
+use Rattle.image_link.proofs.Written.{end_behind, names_text, code_lengths, class_lengths, text_lengths, routine_end, class_end, written_bytes}
 use Rattle.image_link.specs.Image.{is_this_text, is_named, IsLinked}
-use Rattle.image_link.specs.inner.Written.{names_text, code_lengths, class_lengths, text_lengths, routine_end, class_end, written_bytes}
-use Rattle.image_link.specs.Sizes.{one_text, texts_among, used_bytes, KeepWeights, all_weights, IsLimited}
+use Rattle.image_link.specs.Linkable.{one_text, texts_among, used_bytes, KeepWeights, all_weights, IsLimited}
 use Rattle.image_link.proofs.Whole.{image_long}
 use Rattle.image_link.proofs.Alike.{alike_long}
 use Rattle.image_link.proofs.Linked.{linked}

@@ -6,8 +6,8 @@ use Rattle.std.proofs.lemmas.List.{length-append, length-replicate, get_or_appen
 use Rattle.std.proofs.lemmas.Option.{slice_get-map}
 use Rattle.thumb_code.specs.Map.{flash_end}
 use Rattle.thumb_layout.specs.Layout.{up}
-use Rattle.image_link.specs.inner.Parts.{padded, with_part, with_parts, end_with, starts, end_behind}
-use Rattle.image_link.specs.inner.Written.{IsPlace}
+use Rattle.image_link.specs.inner.{padded, end_with, starts, IsPlace}
+use Rattle.image_link.proofs.Written.{with_part, with_parts, end_behind}
 use Rattle.image_link.proofs.Placing.{with_grows, behind_grows}
 
 abbrev pub lengths : List (Option (List ℕ)) → List (Option ℕ)

@@ -1,8 +1,8 @@
 -- The image as a whole: how long it is, and where its parts stand.
-use Rattle.std.proofs.Common.{◌≡◌, ℕ, zero, suc, ◌+◌, ◌*◌, ◌<◌, ◌≤◌, List, [], ◌∷◌, ◌++◌, length, refl, sym, ap, ◌∙◌, arith, Option, Some, None, Bool, true, false, cond}
-use Rattle.std.specs.Prelude.{slice_index_or}
+use Rattle.std.proofs.Common.{◌≡◌, ℕ, zero, suc, ◌+◌, ◌*◌, ◌<◌, ◌≤◌, List, [], ◌∷◌, ◌++◌, length, refl, sym, ap, ◌∙◌, subst, arith, Option, Some, None, Bool, true, false, cond}
+use Rattle.std.specs.Prelude.{map, slice_index, slice_index_or}
 use Rattle.std.specs.Option.{option_map}
-use Rattle.std.specs.List.{AllByRecursion}
+use Rattle.std.specs.List.{AllByRecursion, filter, fold}
 use Rattle.std.proofs.lemmas.List.{map-append}
 use Rattle.std.proofs.lemmas.List.Edits.{sets}
 use Rattle.std.proofs.Math.Seq.{length-sets}
@@ -14,9 +14,9 @@ use Rattle.thumb_layout.specs.declared.laid.Laid.{Laid}
 use Rattle.thumb_layout.specs.Layout.{up}
 use Rattle.thumb_divide.specs.Routine.{routine_bytes, routine_length}
 use Rattle.thumb_emit.specs.InFlash.{Addresses}
-use Rattle.image_link.specs.inner.Parts.{padded, with_parts, end_with, end_behind}
+use Rattle.image_link.specs.inner.{padded, end_with, starts, filled, ArePlaced}
+use Rattle.image_link.proofs.Written.{with_parts, end_behind, code_lengths, class_lengths, text_lengths, code_end, routine_end, class_end, image_end, addresses, code_parts, class_parts, text_parts, parts, written_bytes}
 use Rattle.image_link.specs.Image.{head_length, head, is_named, opened, slot_words, class_table, text_bytes}
-use Rattle.image_link.specs.inner.Written.{code_lengths, class_lengths, text_lengths, code_end, routine_end, class_end, image_end, addresses, filled, code_parts, class_parts, text_parts, parts, written_bytes, ArePlaced}
 use Rattle.image_link.proofs.Placing.{behind_grows}
 use Rattle.image_link.proofs.Standing.{lengths, length_parts, with_append, end_append, start_place}
 
@@ -120,6 +120,44 @@ texts_short_from ls from n (t ∷ ts) h (suc i) l e =
 
 pub texts_short : (ls : List Laid) (cs : List FlatClass) (ts : List (List ℕ)) → image_end ls cs ts ≤ flash_end → (i : ℕ) → i < length ts → is_named ls i ≡ true → length (slice_index_or ts i []) ≤ flash_end
 texts_short ls cs ts h i l e = let z : 0 + i ≡ i = omega arith in texts_short_from ls (class_end ls cs) 0 ts h i l (ap (is_named ls) z ∙ e)
+
+-- parts are put one behind another
+pub parts_put : {X : Type 0} (part : X → List ℕ) (bytes : List ℕ) (xs : List X) → fold (λ b x. padded b ++ part x) bytes xs ≡ with_parts bytes (map (λ x. Some (part x)) xs)
+parts_put part bytes [] = refl
+parts_put part bytes (x ∷ xs) = parts_put part (padded bytes ++ part x) xs
+
+named_step : {X : Type 0} (part : X → List ℕ) (bytes : List ℕ) (x : X) (xs : List X) (ps : List (Option (List ℕ))) (b : Bool) → ((start : List ℕ) → fold (λ c y. padded c ++ part y) start xs ≡ with_parts start ps)
+    → fold (λ c y. padded c ++ part y) bytes (cond b (x ∷ xs) xs) ≡ with_parts bytes (cond b (Some (part x)) None ∷ ps)
+named_step part bytes x xs ps true h = h (padded bytes ++ part x)
+named_step part bytes x xs ps false h = h bytes
+
+pub named_put : {X : Type 0} (test : X → Bool) (part : X → List ℕ) (bytes : List ℕ) (xs : List X) → fold (λ c y. padded c ++ part y) bytes (filter test xs) ≡ with_parts bytes (map (λ x. cond (test x) (Some (part x)) None) xs)
+named_put test part bytes [] = refl
+named_put test part bytes (x ∷ xs) = named_step part bytes x (filter test xs) (map (λ y. cond (test y) (Some (part y)) None) xs) (test x) (λ start. named_put test part start xs)
+
+-- what is found part by part are the addresses
+pub found : (ls : List Laid) (cs : List FlatClass) (ts : List (List ℕ)) (fs ks xs : List ℕ) (r : ℕ) → fs ≡ starts head_length (code_lengths ls) → r ≡ up (code_end ls) → ks ≡ starts (routine_end ls) (class_lengths cs)
+    → xs ≡ starts (class_end ls cs) (text_lengths ls 0 ts) → (let a : Addresses = record { function = slice_index fs; class = slice_index ks; text = slice_index xs; routine = r } in a ≡ addresses ls cs ts)
+unfolding addresses
+found ls cs ts fs ks xs r p q s t = rw (p, q, s, t) refl
+
+pub record IsFound (ls : List Laid) (cs : List FlatClass) (ts : List (List ℕ)) (a : Addresses) : Type 0 where
+  pub is : a ≡ addresses ls cs ts
+  pub fits : image_end ls cs ts ≤ flash_end
+
+pub all_found : (ls : List Laid) (cs : List FlatClass) (ts : List (List ℕ)) (fs ks xs : List ℕ) (r e1 e2 e3 e4 n : ℕ) (l1 l2 l3 : List (Option ℕ))
+    → fs ≡ starts 14 l1 → e1 ≡ end_behind 14 l1 → l1 ≡ code_lengths ls → r ≡ up e1 → e2 ≡ up e1 + n → n ≡ routine_length
+    → ks ≡ starts e2 l2 → e3 ≡ end_behind e2 l2 → l2 ≡ class_lengths cs → xs ≡ starts e3 l3 → e4 ≡ end_behind e3 l3 → l3 ≡ text_lengths ls 0 ts → e4 ≤ flash_end
+    → IsFound ls cs ts (record { function = slice_index fs; class = slice_index ks; text = slice_index xs; routine = r })
+all_found ls cs ts fs ks xs r e1 e2 e3 e4 n l1 l2 l3 f1 g1 h1 p g2 m f2 g3 h2 f3 g4 h3 low =
+    let a1 : e1 ≡ code_end ls = g1 ∙ ap (end_behind 14) h1 in
+    let a2 : e2 ≡ routine_end ls = g2 ∙ (ap (λ (q : ℕ). up q + n) a1 ∙ ap (λ (q : ℕ). up (code_end ls) + q) m) in
+    let a3 : e3 ≡ class_end ls cs = g3 ∙ (ap (λ (q : ℕ). end_behind q l2) a2 ∙ ap (end_behind (routine_end ls)) h2) in
+    let a4 : e4 ≡ image_end ls cs ts = g4 ∙ (ap (λ (q : ℕ). end_behind q l3) a3 ∙ ap (end_behind (class_end ls cs)) h3) in
+    record {
+      is = found ls cs ts fs ks xs r (f1 ∙ ap (starts 14) h1) (p ∙ ap (λ (q : ℕ). up q) a1) (f2 ∙ (ap (λ (q : ℕ). starts q l2) a2 ∙ ap (starts (routine_end ls)) h2)) (f3 ∙ (ap (λ (q : ℕ). starts q l3) a3 ∙ ap (starts (class_end ls cs)) h3));
+      fits = subst (λ (q : ℕ). q ≤ flash_end) a4 low;
+    }
 
 -- what is written part by part is the image
 pub written : (ls : List Laid) (C : FlatCode) (ts : List (List ℕ)) (a : Addresses) (x y z v w : List ℕ) → a ≡ addresses ls C.classes ts → x ≡ head a C.main → y ≡ with_parts x (code_parts a 0 ls) → z ≡ padded y ++ routine_bytes

@@ -1,5 +1,3 @@
 pub mod Image
 pub mod Linkable
-pub mod Shown
-pub mod Sizes
 pub mod inner

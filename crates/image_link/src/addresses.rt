@@ -1,23 +1,22 @@
 //! Where the parts of an image stand.
-ghost use Rattle.std.specs.Prelude.{◌≡◌, ◌<◌, ◌≤◌, ◌+◌, ◌*◌, ℕ, false, length, slice_index_or, IfOk, IfErr, OnOk};
+ghost use Rattle.std.specs.Prelude.{◌≡◌, ◌<◌, ◌≤◌, ◌+◌, ◌*◌, ℕ, Some, None, false, length, map, if◌then◌else◌, slice_index_or, IfOk, IfErr, OnOk};
+ghost use Rattle.std.specs.List.{enumerate_from, fold};
 ghost use Rattle.thumb_code.specs.Map.{flash_end};
 ghost use Rattle.thumb_layout.specs.Layout.{up};
 ghost use Rattle.image_link.specs.Image.{is_named};
-ghost use Rattle.image_link.specs.inner.Parts.{end_with, starts, end_behind};
-ghost use Rattle.image_link.specs.inner.Written.{as_addresses, code_lengths, class_lengths, text_lengths, addresses, image_end};
+ghost use Rattle.image_link.specs.inner.{end_with, starts};
 
 use crate::refused::LinkRefused;
 use flat_ir::FlatClass;
 use std::alloc::Global;
 use sts_base::{NoMemory, Seq};
-use thumb_divide::routine;
 use thumb_layout::Laid;
 
 /// How many bytes flash has.
 const FLASH: u32 = 0x40000;
 
 /// Where the words at reset end, and the instruction behind them.
-const HEAD: u32 = 14;
+pub const HEAD: u32 = 14;
 
 /// The addresses of functions, of the division routine, of classes' tables and of texts, by their numbers. A text that no code names
 /// has the address at which the next one begins.
@@ -30,7 +29,7 @@ pub struct Addresses {
 }
 
 /// The next multiple of 4.
-fn up(at: u32) -> u32
+pub fn up(at: u32) -> u32
     requires { at ≤ flash_end }
     ensures { result ≡ up at }
 {
@@ -38,7 +37,7 @@ fn up(at: u32) -> u32
 }
 
 /// Where a part of a length ends that is put behind an address. It is `PastFlash` exactly where that is past the end of flash.
-fn end_with(end: u32, length: Option<usize>) -> Result<u32, LinkRefused>
+pub fn end_with(end: u32, length: Option<usize>) -> Result<u32, LinkRefused>
     requires { end ≤ flash_end }
     ensures end { IfOk result (λ behind. behind ≡ end_with end length) }
     ensures fits { IfOk result (λ behind. behind ≤ flash_end) }
@@ -55,12 +54,16 @@ fn end_with(end: u32, length: Option<usize>) -> Result<u32, LinkRefused>
 }
 
 /// Where parts of these lengths begin that are put behind an address, which becomes the one behind them all.
-fn place(alloc: Global, lengths: &[Option<usize>], end: &mut u32) -> Result<Seq<u32>, LinkRefused>
+pub fn place(
+    alloc: Global,
+    lengths: &[Option<usize>],
+    end: &mut u32,
+) -> Result<Seq<u32>, LinkRefused>
     requires { end.old ≤ flash_end }
     ensures starts { IfOk result (λ found. found ≡ starts end.old lengths.now) }
-    ensures end { OnOk result (end.new ≡ end_behind end.old lengths.now) }
+    ensures end { OnOk result (end.new ≡ fold end_with end.old lengths.now) }
     ensures fits { OnOk result (end.new ≤ flash_end) }
-    ensures past { IfErr result (λ why. why ≡ LinkRefused.PastFlash → flash_end < end_behind end.old lengths.now) }
+    ensures past { IfErr result (λ why. why ≡ LinkRefused.PastFlash → flash_end < fold end_with end.old lengths.now) }
 {
     let mut starts = Seq::new(alloc);
     for length in lengths {
@@ -71,8 +74,8 @@ fn place(alloc: Global, lengths: &[Option<usize>], end: &mut u32) -> Result<Seq<
 }
 
 /// How many bytes the functions' code has.
-fn code_lengths(alloc: Global, laid: &[Laid]) -> Result<Vec<Option<usize>>, NoMemory>
-    ensures { IfOk result (λ lengths. lengths.items ≡ code_lengths laid.now) }
+pub fn code_lengths(alloc: Global, laid: &[Laid]) -> Result<Vec<Option<usize>>, NoMemory>
+    ensures { IfOk result (λ lengths. lengths.items ≡ map (λ l. Some (length l.bytes)) laid.now) }
 {
     let mut lengths = Vec::new(alloc);
     for code in laid {
@@ -84,8 +87,8 @@ fn code_lengths(alloc: Global, laid: &[Laid]) -> Result<Vec<Option<usize>>, NoMe
 }
 
 /// How many bytes the classes' tables have.
-fn class_lengths(alloc: Global, classes: &[FlatClass]) -> Result<Vec<Option<usize>>, NoMemory>
-    ensures { IfOk result (λ lengths. lengths.items ≡ class_lengths classes.now) }
+pub fn class_lengths(alloc: Global, classes: &[FlatClass]) -> Result<Vec<Option<usize>>, NoMemory>
+    ensures { IfOk result (λ lengths. lengths.items ≡ map (λ c. Some (4 + 4 * length c.slots)) classes.now) }
 {
     let mut lengths = Vec::new(alloc);
     for class in classes {
@@ -100,7 +103,7 @@ fn class_lengths(alloc: Global, classes: &[FlatClass]) -> Result<Vec<Option<usiz
 }
 
 /// How many bytes the texts have that are marked, which are those that laid code names.
-fn text_lengths(
+pub fn text_lengths(
     alloc: Global,
     texts: &[Seq<u8>],
     marks: &[bool],
@@ -108,7 +111,8 @@ fn text_lengths(
 ) -> Result<Vec<Option<usize>>, NoMemory>
     requires long { length marks.now ≡ length texts.now }
     requires marks { (i : ℕ) → i < length texts.now → slice_index_or marks.now i false ≡ is_named laid.now i }
-    ensures { IfOk result (λ lengths. lengths.items ≡ text_lengths laid.now 0 texts.now) }
+    ensures { IfOk result (λ lengths. lengths.items
+        ≡ map (λ p. if is_named laid.now p.0 then Some (4 + length p.1) else None) (enumerate_from 0 texts.now)) }
 {
     let mut lengths = Vec::new(alloc);
     for (index, text) in texts.iter().enumerate() {
@@ -122,34 +126,4 @@ fn text_lengths(
         }
     }
     Ok(lengths)
-}
-
-/// Where all parts of an image stand. It is `PastFlash` exactly where the last one ends past the end of flash.
-#[tactic(auto, unfolding(crate::specs::inner::Written::addresses))]
-pub fn place_parts(
-    alloc: Global,
-    laid: &[Laid],
-    classes: &[FlatClass],
-    texts: &[Seq<u8>],
-    marks: &[bool],
-) -> Result<Addresses, LinkRefused>
-    requires long { length marks.now ≡ length texts.now }
-    requires marks { (i : ℕ) → i < length texts.now → slice_index_or marks.now i false ≡ is_named laid.now i }
-    ensures addresses { IfOk result (λ found. as_addresses found ≡ addresses laid.now classes.now texts.now) }
-    ensures fits { OnOk result (image_end laid.now classes.now texts.now ≤ flash_end) }
-    ensures past { IfErr result
-        (λ why. why ≡ LinkRefused.PastFlash → flash_end < image_end laid.now classes.now texts.now) }
-{
-    let mut end = HEAD;
-    let functions = place(alloc, &code_lengths(alloc, laid)?, &mut end)?;
-    let routine_at = up(end);
-    end = end_with(end, Some(routine().len()))?;
-    let classes = place(alloc, &class_lengths(alloc, classes)?, &mut end)?;
-    let texts = place(alloc, &text_lengths(alloc, texts, marks, laid)?, &mut end)?;
-    Ok(Addresses {
-        functions,
-        routine: routine_at,
-        classes,
-        texts,
-    })
 }

@@ -8,7 +8,7 @@ ghost use Rattle.thumb_layout.specs.Cells.{half_bytes, word_bytes, spelled, offs
 ghost use Rattle.thumb_emit.specs.InFlash.{callee_at, word_for};
 ghost use Rattle.image_link.specs.Image.{opened};
 ghost use Rattle.image_link.specs.Linkable.{IsFixOf};
-ghost use Rattle.image_link.specs.inner.Written.{as_addresses, ArePlaced, filled};
+ghost use Rattle.image_link.specs.inner.{as_addresses, ArePlaced, filled};
 
 use crate::addresses::Addresses;
 use byteorder::{ByteOrder, LittleEndian};

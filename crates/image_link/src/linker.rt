@@ -1,46 +1,20 @@
 //! Linking.
-ghost use Rattle.std.specs.Prelude.{◌≡◌, ◌<◌, ◌≤◌, ◌+◌, ℕ, List, false, length, slice_index_or, IfOk, IfErr};
-ghost use Rattle.std.specs.List.{AllByRecursion};
+ghost use Rattle.std.specs.Prelude.{◌≡◌, ◌<◌, ◌≤◌, List, ℕ, length, IfOk, IfErr};
 ghost use Rattle.thumb_code.specs.Map.{flash_end};
-ghost use Rattle.image_link.specs.Image.{is_named, IsLinked};
+ghost use Rattle.image_link.specs.Image.{IsLinked};
 ghost use Rattle.image_link.specs.Linkable.{IsLinkable};
-ghost use Rattle.image_link.specs.inner.Written as whole;
-ghost use Rattle.image_link.specs.inner.Written.{AreFixesOf, as_addresses, image_end, written_bytes};
 
-use crate::addresses::{Addresses, place_parts};
+use crate::addresses::{
+    Addresses, HEAD, class_lengths, code_lengths, end_with, place, text_lengths, up,
+};
 use crate::naming::named_texts;
 use crate::refused::LinkRefused;
 use crate::writing::{put_classes, put_code, put_head, put_part, put_texts};
 use flat_ir::FlatCode;
 use std::alloc::Global;
-use sts_base::{NoMemory, Seq, Tables};
+use sts_base::{Seq, Tables};
 use thumb_divide::routine;
 use thumb_layout::Laid;
-
-/// The image whose parts stand at these addresses.
-fn written(
-    alloc: Global,
-    laid: &[Laid],
-    code: &FlatCode,
-    texts: &[Seq<u8>],
-    marks: &[bool],
-    addresses: &Addresses,
-) -> Result<Vec<u8>, NoMemory>
-    requires fixes { AllByRecursion AreFixesOf laid.now }
-    requires long { length marks.now ≡ length texts.now }
-    requires marks { (i : ℕ) → i < length texts.now → slice_index_or marks.now i false ≡ is_named laid.now i }
-    requires addresses { as_addresses addresses.now ≡ whole.addresses laid.now code.now.classes texts.now }
-    requires fits { image_end laid.now code.now.classes texts.now ≤ flash_end }
-    ensures { IfOk result (λ bytes. bytes.items ≡ written_bytes laid.now code.now texts.now) }
-{
-    let mut image = Vec::new(alloc);
-    put_head(&mut image, addresses, code.main)?;
-    put_code(alloc, &mut image, laid, addresses)?;
-    put_part(&mut image, routine())?;
-    put_classes(alloc, &mut image, code.classes.as_slice(), addresses)?;
-    put_texts(&mut image, texts, marks, laid)?;
-    Ok(image)
-}
 
 /// The image of a program: its functions as they were laid, the code that they come from, and its texts.
 ///
@@ -67,6 +41,23 @@ pub fn link(
     let classes = code.classes.as_slice();
     let texts = tables.texts.as_slice();
     let marks = named_texts(alloc, laid, texts.len())?;
-    let addresses = place_parts(alloc, laid, classes, texts, &marks)?;
-    Ok(written(alloc, laid, code, texts, &marks, &addresses)?)
+    let mut end = HEAD;
+    let function_starts = place(alloc, &code_lengths(alloc, laid)?, &mut end)?;
+    let routine_start = up(end);
+    end = end_with(end, Some(routine().len()))?;
+    let class_starts = place(alloc, &class_lengths(alloc, classes)?, &mut end)?;
+    let text_starts = place(alloc, &text_lengths(alloc, texts, &marks, laid)?, &mut end)?;
+    let addresses = Addresses {
+        functions: function_starts,
+        routine: routine_start,
+        classes: class_starts,
+        texts: text_starts,
+    };
+    let mut image = Vec::new(alloc);
+    put_head(&mut image, &addresses, code.main)?;
+    put_code(alloc, &mut image, laid, &addresses)?;
+    put_part(&mut image, routine())?;
+    put_classes(alloc, &mut image, classes, &addresses)?;
+    put_texts(&mut image, texts, &marks, laid)?;
+    Ok(image)
 }

@@ -1,8 +1,7 @@
 //! Which texts code names.
 ghost use Rattle.std.specs.Prelude.{◌≡◌, ◌||◌, ℕ, ◌<◌, false, length, slice_index_or, replicate, IfOk};
-ghost use Rattle.std.specs.List.{AllByRecursion};
+ghost use Rattle.std.specs.List.{list_any};
 ghost use Rattle.image_link.specs.Image.{is_this_text, is_named};
-ghost use Rattle.image_link.specs.inner.Written.{names_text};
 
 use std::alloc::Global;
 use sts_base::NoMemory;
@@ -23,7 +22,7 @@ fn mark_text(marks: &mut [bool], what: What)
 /// Marks the texts that fixes name.
 fn mark_texts(marks: &mut [bool], fixes: &[Fix])
     ensures marks { (i : ℕ) → i < length marks.old
-        → slice_index_or marks.new i false ≡ (names_text i fixes.now || slice_index_or marks.old i false) }
+        → slice_index_or marks.new i false ≡ (list_any (λ f. is_this_text i f.what) fixes.now || slice_index_or marks.old i false) }
 {
     for fix in fixes {
         mark_text(marks, fix.what);

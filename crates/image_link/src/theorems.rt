@@ -13,9 +13,7 @@ ghost use Rattle.thumb_emit.specs.Bounds.{bytes_of_weight};
 ghost use Rattle.thumb_emit.specs.Emit.{function_pieces};
 ghost use Rattle.thumb_emit.specs.InFlash.{InFlash};
 ghost use Rattle.image_link.specs.Image.{IsLinked};
-ghost use Rattle.image_link.specs.Linkable.{IsLinkable, NamesTextsBelow};
-ghost use Rattle.image_link.specs.Sizes.{IsLimited};
-ghost use Rattle.image_link.specs.Shown.{IsImaged};
+ghost use Rattle.image_link.specs.Linkable.{IsLinkable, NamesTextsBelow, IsImaged, IsLimited};
 
 /// Laid code, flat code and texts are linked to one image alone.
 pub fn images_are_alike()

@@ -1,14 +1,14 @@
 //! The parts of an image, written one behind another.
 ghost use Rattle.std.specs.Prelude.{◌≡◌, ◌++◌, ◌∷◌, [], ◌<◌, ◌≤◌, ◌+◌, ◌^◌, ℕ, Some, length, replicate, slice_index, slice_index_or, true, false, IfOk, OnOk};
-ghost use Rattle.std.specs.List.{AllByRecursion};
+ghost use Rattle.std.specs.List.{AllByRecursion, enumerate_from, filter, fold};
 ghost use Rattle.thumb_code.specs.declared.instructions.Instr.TheVariants.{Svc};
 ghost use Rattle.thumb_code.specs.Table.{half};
 ghost use Rattle.thumb_code.specs.Map.{flash_end};
 ghost use Rattle.thumb_layout.specs.Layout.{up};
 ghost use Rattle.thumb_layout.specs.Cells.{word_bytes, spelled};
 ghost use Rattle.image_link.specs.Image.{head, class_table, slot_words, text_bytes, is_named};
-ghost use Rattle.image_link.specs.inner.Parts.{padded, with_parts};
-ghost use Rattle.image_link.specs.inner.Written.{AreFixesOf, as_addresses, ArePlaced, class_parts, code_parts, text_parts};
+ghost use Rattle.image_link.specs.Linkable.{IsFixOf};
+ghost use Rattle.image_link.specs.inner.{padded, as_addresses, ArePlaced, filled};
 
 use crate::addresses::Addresses;
 use crate::filling::{filled, word_bytes};
@@ -71,10 +71,11 @@ pub fn put_code(
     addresses: &Addresses,
 ) -> Result<(), NoMemory>
     requires placed { ArePlaced (as_addresses addresses.now) }
-    requires fixes { AllByRecursion AreFixesOf laid.now }
+    requires fixes { AllByRecursion (λ l. AllByRecursion (IsFixOf (length l.bytes)) l.fixes) laid.now }
     requires short { AllByRecursion (λ l. length l.bytes ≤ flash_end) laid.now }
-    ensures { OnOk result
-        (image.new.items ≡ with_parts image.old.items (code_parts (as_addresses addresses.now) 0 laid.now)) }
+    ensures { let a = as_addresses addresses.now in OnOk result (image.new.items
+        ≡ fold (λ bytes p. padded bytes ++ filled a (a.function p.0) p.1.fixes p.1.bytes) image.old.items
+        (enumerate_from 0 laid.now)) }
 {
     for (index, code) in laid.iter().enumerate() {
         let bytes = filled(alloc, code, addresses.function(index), addresses)?;
@@ -104,8 +105,8 @@ pub fn put_classes(
     addresses: &Addresses,
 ) -> Result<(), NoMemory>
     requires { ArePlaced (as_addresses addresses.now) }
-    ensures { OnOk result
-        (image.new.items ≡ with_parts image.old.items (class_parts (as_addresses addresses.now) classes.now)) }
+    ensures { OnOk result (image.new.items
+        ≡ fold (λ bytes c. padded bytes ++ class_table (as_addresses addresses.now) c) image.old.items classes.now) }
 {
     for class in classes {
         put_part(image, &class_table(alloc, class, addresses)?)?;
@@ -133,7 +134,9 @@ pub fn put_texts(
     requires marks { (i : ℕ) → i < length texts.now → slice_index_or marks.now i false ≡ is_named laid.now i }
     requires short { (i : ℕ) → i < length texts.now → is_named laid.now i ≡ true
         → length (slice_index_or texts.now i []) ≤ flash_end }
-    ensures { OnOk result (image.new.items ≡ with_parts image.old.items (text_parts laid.now 0 texts.now)) }
+    ensures { OnOk result (image.new.items
+        ≡ fold (λ bytes p. padded bytes ++ text_bytes p.1) image.old.items
+        (filter (λ p. is_named laid.now p.0) (enumerate_from 0 texts.now))) }
 {
     for (index, text) in texts.iter().enumerate() {
         if marks[index] {

@@ -28,8 +28,7 @@ use Rattle.thumb_emit.specs.Ready.{IsReady}
 use Rattle.thumb_emit.specs.Bounds.{bytes_of_text, bytes_of_weight}
 use Rattle.emitted_bytes.specs.Weighed.{texts_named}
 use Rattle.image_link.specs.Image.{IsLinked}
-use Rattle.image_link.specs.Sizes.{IsLimited}
-use Rattle.image_link.specs.Linkable.{NamesTextBelow, NamesTextsBelow}
+use Rattle.image_link.specs.Linkable.{NamesTextBelow, NamesTextsBelow, IsLimited}
 use Rattle.sts_whole.specs.Building.{IsPlaceable, HasSoundPlaces, IsLayable}
 use Rattle.sts_whole.specs.Compiled.{functions_of, bodies_of}
 use Rattle.sts_whole.proofs.Implementing.{named_among}

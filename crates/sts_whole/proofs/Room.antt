@@ -31,7 +31,7 @@ use Rattle.thumb_emit.specs.InFlash.{IsNamed}
 use Rattle.thumb_emit.proofs.Laws.{function_named}
 use Rattle.thumb_emit.specs.Bounds.{bytes_of_text, bytes_of_weight}
 use Rattle.emitted_bytes.specs.Weighed.{texts_named}
-use Rattle.image_link.specs.Sizes.{texts_among, KeepWeights, all_weights, used_bytes, IsLimited}
+use Rattle.image_link.specs.Linkable.{texts_among, KeepWeights, all_weights, used_bytes, IsLimited}
 use Rattle.sts_whole.specs.Compiled.{functions_of, bodies_of}
 
 -- how many calls of `forever` there are, in lists one after another

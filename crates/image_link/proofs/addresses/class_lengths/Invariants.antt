@@ -1,5 +1,5 @@
 use Rattle.std.proofs.Common.{◌≡◌, take}
-use Rattle.image_link.specs.inner.Written.{class_lengths}
+use Rattle.image_link.proofs.Written.{class_lengths}
 use Rattle.image_link.proofs.addresses.class_lengths.Given as goal
 
 abbrev pub invariant-loop-class : goal.invariant-loop-class

@@ -1,5 +1,5 @@
 use Rattle.std.proofs.Common.{◌≡◌, take}
-use Rattle.image_link.specs.inner.Written.{code_lengths}
+use Rattle.image_link.proofs.Written.{code_lengths}
 use Rattle.image_link.proofs.addresses.code_lengths.Given as goal
 
 abbrev pub invariant-loop-code : goal.invariant-loop-code

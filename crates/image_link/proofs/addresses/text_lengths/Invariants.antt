@@ -1,5 +1,5 @@
 use Rattle.std.proofs.Common.{◌≡◌, ◌++◌, drop}
-use Rattle.image_link.specs.inner.Written.{text_lengths}
+use Rattle.image_link.proofs.Written.{text_lengths}
 use Rattle.image_link.proofs.addresses.text_lengths.Given as goal
 
 abbrev pub invariant-loop-index : goal.invariant-loop-index

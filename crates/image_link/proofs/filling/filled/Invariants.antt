@@ -1,5 +1,5 @@
 use Rattle.std.proofs.Common.{◌≡◌, length, drop}
-use Rattle.image_link.specs.inner.Written.{as_addresses, filled}
+use Rattle.image_link.specs.inner.{as_addresses, filled}
 use Rattle.image_link.proofs.filling.filled.Given as goal
 
 -- what is filled in, and what is left to fill in, is the whole

@@ -1,6 +1,6 @@
 use Rattle.std.proofs.Common.{◌≡◌, ℕ, ◌<◌, false, length, drop}
 use Rattle.std.specs.Prelude.{◌||◌, slice_index_or}
-use Rattle.image_link.specs.inner.Written.{names_text}
+use Rattle.image_link.proofs.Written.{names_text}
 use Rattle.image_link.proofs.naming.mark_texts.Given as goal
 
 -- what is marked, and what is left to mark, is the whole

@@ -1,6 +1,6 @@
 use Rattle.std.proofs.Common.{◌≡◌, ◌++◌, drop}
 use Rattle.image_link.specs.Image.{class_table, slot_words}
-use Rattle.image_link.specs.inner.Written.{as_addresses}
+use Rattle.image_link.specs.inner.{as_addresses}
 use Rattle.image_link.proofs.writing.class_table.Given as goal
 
 -- what is put, and what is left to put, is the whole

@@ -1,8 +1,6 @@
 -- The bytes of an image, as they are written: where its parts begin, by their lengths, and each behind the one before.
-use Rattle.std.specs.Prelude.{◌≡◌, ℕ, ◌+◌, ◌*◌, ◌%◌, ◌≤◌, List, [], ◌∷◌, ◌++◌, length, map, if◌then◌else◌, Option, Some, None, Bool, slice_index}
-use Rattle.std.specs.List.{AllByRecursion, list_any}
-use Rattle.std.proofs.lemmas.List.Edits.{sets}
-use Rattle.thumb_code.specs.Map.{flash_end}
+use Rattle.std.specs.Prelude.{ℕ, ◌+◌, ◌*◌, List, ◌∷◌, ◌++◌, length, map, if◌then◌else◌, Option, Some, None, Bool, slice_index}
+use Rattle.std.specs.List.{AllByRecursion, enumerate_from, fold, list_any}
 use Rattle.flat_ir.specs.declared.ops.FlatClass.{FlatClass}
 use Rattle.flat_ir.specs.declared.ops.FlatCode.{FlatCode}
 use Rattle.thumb_layout.specs.declared.laid.Fix.{Fix}
@@ -10,10 +8,21 @@ use Rattle.thumb_layout.specs.declared.laid.Laid.{Laid}
 use Rattle.thumb_layout.specs.Layout.{up}
 use Rattle.thumb_divide.specs.Routine.{routine_bytes, routine_length}
 use Rattle.thumb_emit.specs.InFlash.{Addresses}
-use Rattle.image_link.specs.declared.addresses.Addresses as code
-use Rattle.image_link.specs.Image.{head_length, head, opened, class_table, text_bytes, is_this_text, is_named}
+use Rattle.image_link.specs.Image.{head_length, head, class_table, text_bytes, is_this_text, is_named}
 use Rattle.image_link.specs.Linkable.{IsFixOf}
-use Rattle.image_link.specs.inner.Parts.{starts, end_behind, with_parts}
+use Rattle.image_link.specs.inner.{padded, end_with, starts, filled}
+
+-- Bytes, with a part behind them, and with parts.
+abbrev pub with_part : List ℕ → Option (List ℕ) → List ℕ
+with_part bytes None = bytes
+with_part bytes (Some part) = padded bytes ++ part
+
+abbrev pub with_parts : List ℕ → List (Option (List ℕ)) → List ℕ
+with_parts bytes ps = fold with_part bytes ps
+
+-- Where the last of parts of these lengths ends that are put behind an address.
+abbrev pub end_behind : ℕ → List (Option ℕ) → ℕ
+end_behind end ns = fold end_with end ns
 
 -- Some fix names text i.
 abbrev pub names_text : ℕ → List Fix → Bool
@@ -32,8 +41,7 @@ abbrev pub class_lengths : List FlatClass → List (Option ℕ)
 class_lengths classes = map (λ c. Some (4 + 4 * length c.slots)) classes
 
 abbrev pub text_lengths : List Laid → ℕ → List (List ℕ) → List (Option ℕ)
-text_lengths laid i [] = []
-text_lengths laid i (t ∷ ts) = (if is_named laid i then Some (4 + length t) else None) ∷ text_lengths laid (i + 1) ts
+text_lengths laid i texts = map (λ p. if is_named laid p.0 then Some (4 + length p.1) else None) (enumerate_from i texts)
 
 -- Where all stand: behind the head the functions, the routine, the classes and the texts.
 abbrev pub code_end : List Laid → ℕ
@@ -56,42 +64,15 @@ addresses laid classes texts = record {
   routine = up (code_end laid);
 }
 
--- The addresses that the code keeps, by numbers.
-abbrev pub as_addresses : code.Addresses → Addresses
-as_addresses a =
-    record {
-      function = slice_index a.functions;
-      class = slice_index a.classes;
-      text = slice_index a.texts;
-      routine = a.routine;
-    }
-
--- An address of a part is a multiple of 4, and no part is past the end of flash.
-abbrev pub IsPlace : ℕ → Type 0
-IsPlace at = (at ≤ flash_end) × (at % 4 ≡ 0)
-
-pub record ArePlaced (a : Addresses) : Type 0 where
-  pub functions : (i : ℕ) → IsPlace (a.function i)
-  pub routine : IsPlace a.routine
-  pub classes : (i : ℕ) → IsPlace (a.class i)
-  pub texts : (i : ℕ) → IsPlace (a.text i)
-
--- The bytes of code that stands at an address, with what was open in it.
-abbrev pub filled : Addresses → ℕ → List Fix → List ℕ → List ℕ
-filled a at [] bytes = bytes
-filled a at (f ∷ fs) bytes = filled a at fs (sets bytes f.at (opened a (at + f.at) f.call f.what))
-
 -- The parts: the functions' code from function i on, the classes' tables, and the texts from text i on.
 abbrev pub code_parts : Addresses → ℕ → List Laid → List (Option (List ℕ))
-code_parts a i [] = []
-code_parts a i (l ∷ ls) = Some (filled a (a.function i) l.fixes l.bytes) ∷ code_parts a (i + 1) ls
+code_parts a i laid = map (λ p. Some (filled a (a.function p.0) p.1.fixes p.1.bytes)) (enumerate_from i laid)
 
 abbrev pub class_parts : Addresses → List FlatClass → List (Option (List ℕ))
 class_parts a classes = map (λ c. Some (class_table a c)) classes
 
 abbrev pub text_parts : List Laid → ℕ → List (List ℕ) → List (Option (List ℕ))
-text_parts laid i [] = []
-text_parts laid i (t ∷ ts) = (if is_named laid i then Some (text_bytes t) else None) ∷ text_parts laid (i + 1) ts
+text_parts laid i texts = map (λ p. if is_named laid p.0 then Some (text_bytes p.1) else None) (enumerate_from i texts)
 
 abbrev pub parts : Addresses → List Laid → List FlatClass → List (List ℕ) → List (Option (List ℕ))
 parts a laid classes texts =
