@@ -6,7 +6,7 @@ use Rattle.std.specs.Int.{cast_signed, cast_unsigned, w32}
 use Rattle.std.proofs.lemmas.Bool.{eq-eqb}
 use Rattle.std.proofs.lemmas.Bool.Decides.{eqb_tells, Decides-int_eq, Decides-eqb, same_from_decides}
 use Rattle.sts_meaning.specs.Values.{Value, Whole, Object, Text, Code, Gives, same}
-use Rattle.arena_values.specs.Words.{Is, AreWords}
+use Rattle.arena_values.specs.Words.{Is}
 use Rattle.arena_values.proofs.Numbers.{word_is}
 use Rattle.arena_values.proofs.Signs.{null_is}
 
@@ -18,6 +18,16 @@ apart_of v w n = ⊎_elim (λ d. absurd (n d.1)) (λ d. sym d.0) (eqb_tells v w)
 
 given : (x y : Bool) → Gives x ≡ Gives y → x ≡ y
 given x y e = cc
+
+-- of an image's words for texts and functions
+module _ (IsText IsCode : ℕ → ℕ → Type 0) where
+  -- A text has one address, which isn't 0, and no two have the same.
+  pub record AreWords : Type 0 where
+    pub text_fits : (t w : ℕ) → IsText t w → w < 2 ^ 32
+    pub text_there : (t w : ℕ) → IsText t w → 0 < w
+    pub text_one : (t v w : ℕ) → IsText t v → IsText t w → v ≡ w
+    pub text_apart : (t u w : ℕ) → IsText t w → IsText u w → t ≡ u
+    pub code_fits : (f w : ℕ) → IsCode f w → w < 2 ^ 32
 
 module _ (IsText IsCode : ℕ → ℕ → Type 0) (words : AreWords IsText IsCode) where
   whole_words : (x y : ℤ) (v w : ℕ) → Is IsText IsCode (Whole x) v → Is IsText IsCode (Whole y) w → int_eq x y ≡ nat_eq v w

@@ -3,6 +3,7 @@ mod Update
 mod Standing
 mod Objects
 mod Arrays
+mod Showing
 mod Seen
 mod Making
 mod Addresses
@@ -10,5 +11,6 @@ mod Pushing
 mod Comparing
 mod Numbers
 mod Equal
+mod Operators
 mod Operating
 pub mod Laws

@@ -14,7 +14,7 @@ use Rattle.thumb_code.specs.Arithmetic.{sign, inverted, sum_of, shifted, lsl, ls
 use Rattle.bank_model.specs.AllServices.{number_word, quotient, remainder}
 use Rattle.sts_meaning.specs.Values.{to_int32, shift_count}
 use Rattle.sts_meaning.specs.Values as values
-use Rattle.arena_values.specs.Operators.{shifted_by}
+use Rattle.arena_values.proofs.Operators.{shifted_by}
 use Rattle.arena_values.proofs.Addresses.{which}
 use Rattle.arena_values.proofs.Signs.{signed_low, signed_high}
 

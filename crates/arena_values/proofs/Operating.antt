@@ -4,11 +4,11 @@ use Rattle.std.specs.Prelude.{ℤ, pos, negsuc, ◌+ℤ◌, int_lt, int_le}
 use Rattle.std.specs.Ordering.{int_eq}
 use Rattle.thumb_code.specs.Arithmetic.{bit_of}
 use Rattle.sts_meaning.specs.Values.{Value, Whole, Object, Text, Code, Outcome, Gives, Breaks, Stuck, then_gives, there, whole, to_int32, truth, same, arithmetic, order, either_value, of_numbers, applied, prefixed, applied_before, decided}
-use Rattle.arena_values.specs.Words.{Is, AreWords}
-use Rattle.arena_values.specs.Operators.{compared, operated, prefix_word}
+use Rattle.arena_values.specs.Words.{Is}
+use Rattle.arena_values.proofs.Equal.{AreWords, same_words, is_small}
+use Rattle.arena_values.proofs.Operators.{compared, operated, prefix_word}
 use Rattle.arena_values.proofs.Comparing.{words_tell, words_equal, words_unequal}
 use Rattle.arena_values.proofs.Numbers.{Reads, or_reads, xor_reads, and_reads, sum_reads, difference_reads, product_reads, left_reads, right_reads, signed_reads, quotient_reads, remainder_reads, negative_reads, inverted_reads, more_reads, less_reads}
-use Rattle.arena_values.proofs.Equal.{same_words, is_small}
 
 -- a truth value's word
 truth_reads : (c : Bool) (n : ℕ) → n ≡ bit_of c → (IsText IsCode : ℕ → ℕ → Type 0) → Is IsText IsCode (truth c) n

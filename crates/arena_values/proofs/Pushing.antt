@@ -10,7 +10,7 @@ use Rattle.bank_model.specs.AllServices.{word_argument, pushes, unless_null}
 use Rattle.sts_meaning.specs.Values.{Value, Whole, Object, Text, Code, Gives, then_gives}
 use Rattle.sts_meaning.specs.Heaps.{CellOf, Fields, Items, HeapOf, RowOf, with_cell, items_of, put_items, growth, wider, pushed}
 use Rattle.arena_values.specs.Lies.{Stand, Lies, Shows}
-use Rattle.arena_values.specs.Seen.{PushedBy, PushesAs}
+use Rattle.arena_values.proofs.Showing.{PushedBy, PushesAs}
 use Rattle.arena_values.proofs.Signs.{null_is}
 use Rattle.arena_values.proofs.Addresses.{which, place_behind, put_length, put_before, put_behind, put_at, read_length, read_at, more_front, more_last}
 use Rattle.arena_values.proofs.Arrays.{adds_item, grows_array}

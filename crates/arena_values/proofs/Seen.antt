@@ -8,7 +8,7 @@ use Rattle.sts_meaning.specs.Values.{Value, Whole, Object, Text, Code, Gives, th
 use Rattle.sts_meaning.specs.Heaps.{CellOf, Fields, Items, HeapOf, with_cell, write_global, fields_of, object_at, items_of, put_fields, put_items, read_field, write_field, found, item_at, read_item, write_item, length_at, last, shorter, popped}
 use Rattle.arena_values.specs.Words.{Is}
 use Rattle.arena_values.specs.Lies.{Stand, Lies, Shows}
-use Rattle.arena_values.specs.Seen.{Header, SeesClass, SeesField, PastItems, SeesItem, SeesLength, ChangesField, ChangesItem, PopsItem}
+use Rattle.arena_values.proofs.Showing.{Header, SeesClass, SeesField, PastItems, SeesItem, SeesLength, ChangesField, ChangesItem, PopsItem}
 use Rattle.arena_values.proofs.Signs.{signed_low, null_is, index_is, negative_is}
 use Rattle.arena_values.proofs.Standing.{entry_below, entry_none, changed_length, more_length, last_is, last_none, stand_at, stand_set, stand_front}
 use Rattle.arena_values.proofs.Objects.{sets_field}

@@ -1,4 +1,2 @@
 pub mod Words
 pub mod Lies
-pub mod Seen
-pub mod Operators

@@ -13,11 +13,3 @@ module _ (IsText IsCode : ℕ → ℕ → Type 0) where
   Is (Object n) w = (w ≡ behind_words n) × (n < arena_words)
   Is (Text t) w = IsText t w
   Is (Code f) w = IsCode f w
-
-  -- A text has one address, which isn't 0, and no two have the same.
-  pub record AreWords : Type 0 where
-    pub text_fits : (t w : ℕ) → IsText t w → w < 2 ^ 32
-    pub text_there : (t w : ℕ) → IsText t w → 0 < w
-    pub text_one : (t v w : ℕ) → IsText t v → IsText t w → v ≡ w
-    pub text_apart : (t u w : ℕ) → IsText t w → IsText u w → t ≡ u
-    pub code_fits : (f w : ℕ) → IsCode f w → w < 2 ^ 32

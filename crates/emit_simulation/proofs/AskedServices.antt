@@ -27,12 +27,11 @@ use Rattle.flat_meaning.specs.Frames.{FlatFrame, FlatActivity, Stands, given}
 use Rattle.flat_meaning.specs.Steps.{FlatTurn, flat_asker, asks, with_pair}
 use Rattle.thumb_emit.specs.InFlash.{Addresses}
 use Rattle.thumb_emit.specs.Bounds.{op_instructions}
-use Rattle.arena_values.specs.Seen.{PushesAs}
-use Rattle.arena_values.proofs.Laws.{pushes_as}
+use Rattle.arena_values.proofs.Laws.{PushesAs, pushes_as}
 use Rattle.emit_simulation.specs.Starts.{start}
 use Rattle.emit_simulation.specs.Ties.{IsAt, IsShared, IsImage, Means, IsText, IsCode}
-use Rattle.emit_simulation.specs.Context.{shared_seen}
-use Rattle.emit_simulation.specs.Makes.{MakesOp}
+use Rattle.emit_simulation.proofs.AtOps.{shared_seen}
+use Rattle.emit_simulation.proofs.Makes.{MakesOp}
 use Rattle.emit_simulation.proofs.Turns.{Owed, going}
 use Rattle.emit_simulation.proofs.Loading.{loaded}
 use Rattle.emit_simulation.proofs.Services.{v, asking_fiber, asking_shared, its_shows, Serves, settled_over, asks_turn}

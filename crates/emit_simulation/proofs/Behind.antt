@@ -29,14 +29,14 @@ use Rattle.thumb_emit.specs.Frame.{lands}
 use Rattle.thumb_emit.specs.Bounds.{total_cost}
 use Rattle.thumb_emit.proofs.Laws.{lands_still, still_takes}
 use Rattle.thumb_emit.specs.InFlash.{Addresses}
-use Rattle.placed_frames.specs.View.{View}
-use Rattle.emit_simulation.specs.Laid.{AllFlow, store_of}
-use Rattle.emit_simulation.specs.Starts.{StandAt, start}
+use Rattle.placed_frames.proofs.Laws.{View}
+use Rattle.emit_simulation.proofs.Laid.{AllFlow, store_of}
+use Rattle.emit_simulation.specs.Starts.{start}
+use Rattle.emit_simulation.proofs.Starts.{StandAt, rest_of}
 use Rattle.emit_simulation.specs.Ties.{IsAt, IsTied, AtOp, IsShared, IsImage, Means, spots, place_in, return_to, frames_of}
-use Rattle.emit_simulation.specs.Context.{view_in, bank_in, fiber_seen, shared_seen}
+use Rattle.emit_simulation.proofs.AtOps.{view_in, bank_in, fiber_seen, shared_seen}
 use Rattle.emit_simulation.proofs.Flowing.{flows}
 use Rattle.emit_simulation.proofs.Paths.{path}
-use Rattle.emit_simulation.proofs.Starts.{rest_of}
 use Rattle.emit_simulation.proofs.Placed.{landed_view, landed_low, landed_shared}
 use Rattle.emit_simulation.proofs.Straight.{lands_last, runs_on}
 use Rattle.emit_simulation.proofs.Meanings.{small}

@@ -25,14 +25,13 @@ use Rattle.flat_meaning.specs.Steps.{called}
 use Rattle.thumb_emit.specs.Emit.{passes, land, function_pieces}
 use Rattle.thumb_emit.specs.Bounds.{op_instructions, total_cost}
 use Rattle.thumb_emit.specs.InFlash.{Addresses, callee_at}
-use Rattle.placed_frames.specs.View.{View, registers_of, bank_of}
+use Rattle.placed_frames.proofs.Laws.{View, registers_of, bank_of, at_view, quiet_does}
 use Rattle.placed_frames.specs.Frames.{AreWords, outgoing_at}
-use Rattle.placed_frames.proofs.Laws.{at_view, quiet_does}
-use Rattle.emit_simulation.specs.Laid.{over, steps_of}
+use Rattle.emit_simulation.proofs.Laid.{over, steps_of}
 use Rattle.emit_simulation.specs.Starts.{start}
 use Rattle.emit_simulation.specs.Ties.{IsAt, IsShared, IsImage, Means, spots, calls_at, calling_of, return_in}
-use Rattle.emit_simulation.specs.Context.{view_in, bank_in}
-use Rattle.emit_simulation.specs.Makes.{MakesOp}
+use Rattle.emit_simulation.proofs.AtOps.{view_in, bank_in}
+use Rattle.emit_simulation.proofs.Makes.{MakesOp}
 use Rattle.emit_simulation.proofs.Flowing.{flows, each_goes}
 use Rattle.emit_simulation.proofs.Starts.{first_of, rest_of}
 use Rattle.emit_simulation.proofs.Context.{all_at}

@@ -19,11 +19,11 @@ use Rattle.flat_meaning.specs.Frames.{FlatFrame}
 use Rattle.thumb_emit.specs.Emit.{op_pieces, function_pieces}
 use Rattle.thumb_emit.specs.InFlash.{Addresses, callee_at, word_for}
 use Rattle.thumb_emit.proofs.Laws.{function_sound, function_words}
-use Rattle.placed_frames.specs.View.{At}
-use Rattle.emit_simulation.specs.Laid.{Laid}
+use Rattle.placed_frames.proofs.Laws.{At}
+use Rattle.emit_simulation.proofs.Laid.{Laid}
 use Rattle.emit_simulation.specs.Starts.{start}
 use Rattle.emit_simulation.specs.Ties.{IsAt, IsImage, spots}
-use Rattle.emit_simulation.specs.Context.{bank_in, InFunction, AtOpOf}
+use Rattle.emit_simulation.proofs.AtOps.{bank_in, InFunction, AtOpOf}
 use Rattle.emit_simulation.proofs.Holding.{laid_of}
 use Rattle.emit_simulation.proofs.Starts.{op_stands, next_start, later}
 

@@ -31,12 +31,12 @@ use Rattle.register_assign.specs.declared.places.Place.{Place}
 use Rattle.thumb_emit.specs.Bounds.{op_instructions}
 use Rattle.thumb_emit.specs.InFlash.{Addresses}
 use Rattle.arena_values.proofs.Laws.{words_unequal, decided_is}
-use Rattle.placed_frames.specs.View.{View, Quiet}
-use Rattle.emit_simulation.specs.Laid.{OfInstr, Comes, steps_of}
+use Rattle.placed_frames.proofs.Laws.{View, Quiet}
+use Rattle.emit_simulation.proofs.Laid.{OfInstr, Comes, steps_of}
 use Rattle.emit_simulation.specs.Starts.{start}
 use Rattle.emit_simulation.specs.Ties.{IsAt, IsShared, IsImage, IsText, IsCode, spots}
-use Rattle.emit_simulation.specs.Context.{view_in, bank_in}
-use Rattle.emit_simulation.specs.Makes.{MakesOp}
+use Rattle.emit_simulation.proofs.AtOps.{view_in, bank_in}
+use Rattle.emit_simulation.proofs.Makes.{MakesOp}
 use Rattle.emit_simulation.proofs.Flowing.{branches, passes_by, then}
 use Rattle.emit_simulation.proofs.Placed.{brought, brought_word, brought_store, brought_length}
 use Rattle.emit_simulation.proofs.Starts.{op_stands, first_of, stand_as}

@@ -19,9 +19,8 @@ use Rattle.thumb_emit.specs.Frame.{carries}
 use Rattle.thumb_emit.specs.Emit.{division, divides}
 use Rattle.thumb_emit.specs.Bounds.{total_cost}
 use Rattle.placed_frames.specs.Places.{Store}
-use Rattle.placed_frames.specs.View.{View, registers_of, bank_of, At}
-use Rattle.placed_frames.proofs.Laws.{four, at_view, quiet_does}
-use Rattle.emit_simulation.specs.Laid.{Fm, over, Laid, AllFlow, Comes, store_of, step_of, steps_of}
+use Rattle.placed_frames.proofs.Laws.{View, registers_of, bank_of, At, four, at_view, quiet_does}
+use Rattle.emit_simulation.proofs.Laid.{Fm, over, Laid, AllFlow, Comes, store_of, step_of, steps_of}
 use Rattle.emit_simulation.proofs.Flowing.{each_goes, flows, flows_one, then}
 use Rattle.emit_simulation.proofs.Starts.{first_of}
 use Rattle.emit_simulation.proofs.Placed.{moved, moves_flows, moved_word, moved_other, moved_length, same_kept}

@@ -21,15 +21,13 @@ use Rattle.sts_meaning.specs.Values.{Value}
 use Rattle.thumb_emit.specs.Emit.{move_pieces, moves_pieces, entry_pieces}
 use Rattle.thumb_emit.specs.Frame.{from_place, to_place, lowers, below_saved, saved_list}
 use Rattle.thumb_emit.specs.Bounds.{total_cost}
-use Rattle.placed_frames.specs.View.{View, with_low, registers_of, bank_of, Quiet, At}
-use Rattle.placed_frames.specs.Places.{Store, put, move, moved, IsRoom, words}
+use Rattle.placed_frames.proofs.Laws.{View, with_low, registers_of, bank_of, Quiet, At, Bm, at_view, quiet_does, run_listed, leaving, leaving_at, leaving_last, leaving_length, leaving_words, kept_at, push_is, pushes_words, frames_room, move_room, move_incoming, calls, HasPushed, pushed, put, move, moved, IsRoom}
+use Rattle.placed_frames.specs.Places.{Store, words}
 use Rattle.placed_frames.specs.Frames.{Frame, HasFrames, Running, AreWords, outgoing_of}
-use Rattle.placed_frames.proofs.Laws.{Bm, at_view, quiet_does, run_listed, leaving, leaving_at, leaving_last, leaving_length, leaving_words, kept_at, push_is, pushes_words, frames_room, move_room, move_incoming, calls, HasPushed, pushed}
-use Rattle.emit_simulation.specs.Laid.{Fm, over, Laid, Comes, Flows, OfInstr, OfLabel, OfNumber, AllFlow, loaded_flags, steps_of, store_of}
-use Rattle.emit_simulation.specs.Starts.{StandAt}
+use Rattle.emit_simulation.proofs.Laid.{Fm, over, Laid, Comes, Flows, OfInstr, OfLabel, OfNumber, AllFlow, loaded_flags, steps_of, store_of}
+use Rattle.emit_simulation.proofs.Starts.{StandAt, first_of, rest_of}
 use Rattle.emit_simulation.proofs.Flowing.{flows, flows_one, branches, passes_by, then, goes_next, each_goes}
 use Rattle.emit_simulation.proofs.Placed.{store_low, gets, puts, put_view, store_put, put_low, put_shared}
-use Rattle.emit_simulation.proofs.Starts.{first_of, rest_of}
 use Rattle.emit_simulation.proofs.Ops.{all_append}
 use Rattle.emit_simulation.proofs.Lowering.{lowered_by}
 

@@ -27,14 +27,13 @@ use Rattle.thumb_emit.specs.Emit.{op_pieces, tests_null, field_offset}
 use Rattle.thumb_emit.specs.Frame.{register_of, brings, keeps, result_in}
 use Rattle.thumb_emit.specs.InFlash.{Addresses}
 use Rattle.thumb_emit.specs.Bounds.{op_instructions}
-use Rattle.placed_frames.specs.View.{View, with_low, InArena, ToArena, Get, GetAt, Put, PutAt}
-use Rattle.arena_values.specs.Seen.{FieldSeen, SeesField, FieldChanged, ChangesField}
-use Rattle.arena_values.proofs.Laws.{sees_field, changes_field}
-use Rattle.emit_simulation.specs.Laid.{loaded_flags, OfInstr, OfNumber, Flows, store_of}
+use Rattle.placed_frames.proofs.Laws.{View, with_low, InArena, ToArena, Get, GetAt, Put, PutAt, get}
+use Rattle.arena_values.proofs.Laws.{FieldSeen, SeesField, FieldChanged, ChangesField, sees_field, changes_field}
+use Rattle.emit_simulation.proofs.Laid.{loaded_flags, OfInstr, OfNumber, Flows, store_of}
 use Rattle.emit_simulation.specs.Starts.{start}
 use Rattle.emit_simulation.specs.Ties.{IsAt, IsShared, IsImage, Means, IsText, IsCode, spots}
-use Rattle.emit_simulation.specs.Context.{view_in}
-use Rattle.emit_simulation.specs.Makes.{MakesOp}
+use Rattle.emit_simulation.proofs.AtOps.{view_in}
+use Rattle.emit_simulation.proofs.Makes.{MakesOp}
 use Rattle.emit_simulation.proofs.Placed.{store_low, result_set, not_scratch, brought, brought_word, brought_other, brought_store, brought_length, made_small}
 use Rattle.emit_simulation.proofs.Meanings.{small, none_some}
 use Rattle.emit_simulation.proofs.Ops.{here, word, word_means, word_small, brings_word}
@@ -42,7 +41,6 @@ use Rattle.emit_simulation.proofs.Turns.{Owed}
 use Rattle.emit_simulation.proofs.Walk.{Got, one, got_wider, object_there, object_null, its_meaning, its_place, in_register, finished, stored, tested}
 use Rattle.thumb_emit.proofs.Laws.{brings_still, still_takes}
 use Rattle.thumb_layout.specs.Holds.{cost}
-use Rattle.placed_frames.specs.Places.{get}
 
 module _ (C : FlatCode) (placed : List Placed) (flash : List ℕ) (a : Addresses) (texts : List ByteList) (image : IsImage C placed flash a texts) where
   abbrev Word : Value → ℕ → Type 0

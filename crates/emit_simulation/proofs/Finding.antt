@@ -23,17 +23,15 @@ use Rattle.register_assign.specs.Sound.{place_of, IsWithin}
 use Rattle.flat_meaning.specs.Frames.{FlatFrame}
 use Rattle.thumb_emit.specs.Frame.{register_of, brings}
 use Rattle.thumb_emit.specs.InFlash.{Addresses}
-use Rattle.placed_frames.specs.View.{View, with_low, InArena, Get}
-use Rattle.arena_values.specs.Seen.{IsNull, Header, PastItems}
-use Rattle.arena_values.proofs.Laws.{words_below}
-use Rattle.emit_simulation.specs.Laid.{store_of, OfInstr, Flows}
+use Rattle.placed_frames.proofs.Laws.{View, with_low, InArena, Get, get}
+use Rattle.arena_values.proofs.Laws.{IsNull, Header, PastItems, words_below}
+use Rattle.emit_simulation.proofs.Laid.{store_of, OfInstr, Flows}
 use Rattle.emit_simulation.specs.Starts.{start}
 use Rattle.emit_simulation.specs.Ties.{IsAt, IsShared, IsImage, spots}
-use Rattle.emit_simulation.specs.Context.{view_in}
+use Rattle.emit_simulation.proofs.AtOps.{view_in}
 use Rattle.emit_simulation.proofs.Placed.{store_low, not_scratch, brought, brought_word, brought_other, brought_store, brought_length}
 use Rattle.thumb_emit.proofs.Laws.{brings_still, still_takes}
 use Rattle.thumb_layout.specs.Holds.{cost}
-use Rattle.placed_frames.specs.Places.{get}
 use Rattle.emit_simulation.proofs.Ops.{here, word, word_small, brings_word}
 use Rattle.emit_simulation.proofs.Turns.{Owed}
 use Rattle.emit_simulation.proofs.Walk.{Got, pieces, begun, one, got_wider, quiet, holding, breaking, tested, not_null, is_null}

@@ -12,9 +12,8 @@ use Rattle.thumb_layout.specs.Pieces.{Places, piece_effect, goes_on, is_taken}
 use Rattle.thumb_layout.specs.Holds.{cost, Means}
 use Rattle.thumb_layout.proofs.Laws.{silent_add, silent_one, reaches_add, ComesSilently}
 use Rattle.thumb_emit.specs.Bounds.{total_cost}
-use Rattle.placed_frames.specs.View.{View, registers_of, bank_of, At}
-use Rattle.placed_frames.proofs.Laws.{does, at_view, quiet_does}
-use Rattle.emit_simulation.specs.Laid.{Fm, over, Laid, Flows, OfInstr, OfLabel, OfNumber, OfAddress, AllFlow, step_of, steps_of, Comes}
+use Rattle.placed_frames.proofs.Laws.{View, registers_of, bank_of, At, does, at_view, quiet_does}
+use Rattle.emit_simulation.proofs.Laid.{Fm, over, Laid, Flows, OfInstr, OfLabel, OfNumber, OfAddress, AllFlow, step_of, steps_of, Comes}
 
 -- a piece whose effect goes on is gone through
 pub means_goes : (fetch : ℕ → Fetched) (p : Places) (i : ℕ) (x : Piece) (s : Registers) (t : Fm) (q : Registers) (t' : Fm) → Means over fetch p i x s t

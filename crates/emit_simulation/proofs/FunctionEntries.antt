@@ -27,12 +27,12 @@ use Rattle.flat_meaning.specs.Steps.{called, entering}
 use Rattle.thumb_emit.specs.Emit.{entry_pieces, function_pieces}
 use Rattle.thumb_emit.specs.InFlash.{Addresses}
 use Rattle.arena_values.specs.Lies.{Shows}
-use Rattle.placed_frames.specs.View.{View, registers_of, bank_of, At}
+use Rattle.placed_frames.proofs.Laws.{View, registers_of, bank_of, At}
 use Rattle.placed_frames.specs.Places.{words}
 use Rattle.placed_frames.specs.Frames.{HasFrames, AreWords, outgoing_of, words_at, saved_at}
-use Rattle.emit_simulation.specs.Laid.{Fm, over, store_of}
+use Rattle.emit_simulation.proofs.Laid.{Fm, over, store_of}
 use Rattle.emit_simulation.specs.Ties.{AtOp, IsShared, IsImage, Means, spots, place_in, return_to, frames_of, stack_end}
-use Rattle.emit_simulation.specs.Context.{bank_in}
+use Rattle.emit_simulation.proofs.AtOps.{bank_in}
 use Rattle.emit_simulation.proofs.Starts.{entry_stands, first_start}
 use Rattle.emit_simulation.proofs.Context.{laid_at, function_at}
 use Rattle.emit_simulation.proofs.Meanings.{small, entry_is}

@@ -23,12 +23,12 @@ use Rattle.thumb_emit.specs.Emit.{finds_global}
 use Rattle.thumb_emit.specs.Bounds.{op_instructions}
 use Rattle.thumb_emit.specs.InFlash.{Addresses}
 use Rattle.arena_values.proofs.Laws.{sees_global, changes_global}
-use Rattle.placed_frames.specs.View.{View, with_low, InGlobals, Get, Put, ToGlobals}
-use Rattle.emit_simulation.specs.Laid.{loaded_flags, OfInstr, OfNumber}
+use Rattle.placed_frames.proofs.Laws.{View, with_low, InGlobals, Get, Put, ToGlobals}
+use Rattle.emit_simulation.proofs.Laid.{loaded_flags, OfInstr, OfNumber}
 use Rattle.emit_simulation.specs.Starts.{start}
 use Rattle.emit_simulation.specs.Ties.{IsAt, IsShared, IsImage, IsText, IsCode}
-use Rattle.emit_simulation.specs.Context.{view_in}
-use Rattle.emit_simulation.specs.Makes.{MakesOp}
+use Rattle.emit_simulation.proofs.AtOps.{view_in}
+use Rattle.emit_simulation.proofs.Makes.{MakesOp}
 use Rattle.emit_simulation.proofs.Placed.{store_low, result_set, not_scratch, brought, brought_word, brought_store, brought_length, made_small}
 use Rattle.thumb_emit.specs.Frame.{register_of, result_in}
 use Rattle.emit_simulation.proofs.Meanings.{small}

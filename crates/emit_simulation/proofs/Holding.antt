@@ -15,9 +15,8 @@ use Rattle.thumb_layout.specs.Cells.{laid}
 use Rattle.thumb_layout.specs.Holds.{Reads}
 use Rattle.thumb_layout.specs.Flash.{HasCode, places}
 use Rattle.thumb_layout.proofs.Laws.{reads_moving, laid_code_means, code_holds, label_goes}
-use Rattle.placed_frames.specs.View.{At}
-use Rattle.placed_frames.proofs.Laws.{sp_has, sp_stays, flash_fault, flash_load}
-use Rattle.emit_simulation.specs.Laid.{over, Laid, IsEven, AreBytes}
+use Rattle.placed_frames.proofs.Laws.{At, sp_has, sp_stays, flash_fault, flash_load}
+use Rattle.emit_simulation.proofs.Laid.{over, Laid, IsEven, AreBytes}
 
 -- a word of bytes
 pub word_fits : (flash : List ℕ) → AreBytes flash → (a : ℕ) → flash_word flash a < 2 ^ 32

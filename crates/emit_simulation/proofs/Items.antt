@@ -24,17 +24,15 @@ use Rattle.flat_meaning.specs.Steps.{FlatTurn}
 use Rattle.thumb_emit.specs.Frame.{register_of, brings, result_in}
 use Rattle.thumb_emit.proofs.Laws.{brings_still, still_takes}
 use Rattle.thumb_layout.specs.Holds.{cost}
-use Rattle.placed_frames.specs.Places.{get}
+use Rattle.placed_frames.proofs.Laws.{get, View, with_low, InArena, ToArena, Get, GetAt, PutAt}
 use Rattle.thumb_emit.specs.InFlash.{Addresses}
 use Rattle.thumb_emit.specs.Bounds.{op_instructions}
-use Rattle.placed_frames.specs.View.{View, with_low, InArena, ToArena, Get, GetAt, PutAt}
-use Rattle.arena_values.specs.Seen.{ItemSeen, SeesItem, LengthSeen, SeesLength, ItemChanged, ChangesItem}
-use Rattle.arena_values.proofs.Laws.{sees_item, changes_item, sees_length}
-use Rattle.emit_simulation.specs.Laid.{OfInstr, Flows}
+use Rattle.arena_values.proofs.Laws.{ItemSeen, SeesItem, LengthSeen, SeesLength, ItemChanged, ChangesItem, sees_item, changes_item, sees_length}
+use Rattle.emit_simulation.proofs.Laid.{OfInstr, Flows}
 use Rattle.emit_simulation.specs.Starts.{start}
 use Rattle.emit_simulation.specs.Ties.{IsAt, IsShared, IsImage, Means, IsText, IsCode, spots}
-use Rattle.emit_simulation.specs.Context.{view_in}
-use Rattle.emit_simulation.specs.Makes.{MakesOp}
+use Rattle.emit_simulation.proofs.AtOps.{view_in}
+use Rattle.emit_simulation.proofs.Makes.{MakesOp}
 use Rattle.emit_simulation.proofs.Placed.{result_set, brought, brought_word, brought_other, brought_store, brought_length, made_small}
 use Rattle.emit_simulation.proofs.Meanings.{small, none_some}
 use Rattle.emit_simulation.proofs.Ops.{here, word, word_means, word_small, brings_word}

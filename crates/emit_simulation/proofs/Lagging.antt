@@ -33,11 +33,11 @@ use Rattle.flat_meaning.specs.Frames.{FlatFrame, Stands, given}
 use Rattle.thumb_emit.specs.Emit.{function_pieces}
 use Rattle.thumb_emit.specs.Frame.{to_place, to_instr, idle_piece}
 use Rattle.thumb_emit.specs.InFlash.{Addresses}
-use Rattle.placed_frames.specs.View.{View, registers_of, bank_of, Quiet}
-use Rattle.emit_simulation.specs.Laid.{over, store_of}
+use Rattle.placed_frames.proofs.Laws.{View, registers_of, bank_of, Quiet}
+use Rattle.emit_simulation.proofs.Laid.{over, store_of}
 use Rattle.emit_simulation.specs.Starts.{start}
 use Rattle.emit_simulation.specs.Ties.{IsAt, IsTied, AtOp, IsShared, IsImage, Means, ties, spots, place_in, return_to, frames_of}
-use Rattle.emit_simulation.specs.Context.{view_in, bank_in, fiber_seen}
+use Rattle.emit_simulation.proofs.AtOps.{view_in, bank_in, fiber_seen}
 use Rattle.emit_simulation.proofs.Paths.{path}
 use Rattle.emit_simulation.proofs.Placed.{put_view, put_low, store_low}
 use Rattle.emit_simulation.proofs.Straight.{lands_last, runs_on, runs_with}

@@ -1,3 +1,7 @@
+pub mod Laid
+pub mod AtOps
+pub mod Makes
+pub mod Leaving
 pub mod Flowing
 pub mod Holding
 pub mod Placed

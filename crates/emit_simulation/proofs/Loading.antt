@@ -21,11 +21,11 @@ use Rattle.flat_meaning.specs.Frames.{FlatFrame}
 use Rattle.thumb_emit.specs.Emit.{loads, asks}
 use Rattle.thumb_emit.specs.Frame.{from_place, lands}
 use Rattle.thumb_emit.specs.InFlash.{Addresses}
-use Rattle.placed_frames.specs.View.{View, with_low}
-use Rattle.emit_simulation.specs.Laid.{store_of}
+use Rattle.placed_frames.proofs.Laws.{View, with_low}
+use Rattle.emit_simulation.proofs.Laid.{store_of}
 use Rattle.emit_simulation.specs.Starts.{start}
 use Rattle.emit_simulation.specs.Ties.{IsAt, IsShared, IsImage, Means}
-use Rattle.emit_simulation.specs.Context.{view_in}
+use Rattle.emit_simulation.proofs.AtOps.{view_in}
 use Rattle.emit_simulation.proofs.Placed.{store_low}
 use Rattle.emit_simulation.proofs.Ops.{here, word, word_means, reads_word}
 use Rattle.emit_simulation.proofs.Walk.{Got, pieces, begun, one}

@@ -11,10 +11,9 @@ use Rattle.thumb_layout.specs.declared.pieces.Piece.TheVariants.{Plain}
 use Rattle.thumb_layout.specs.Pieces.{Places}
 use Rattle.thumb_layout.proofs.Laws.{reaches_add, ComesSilently}
 use Rattle.thumb_emit.specs.Frame.{raises, lowers}
-use Rattle.placed_frames.specs.View.{At}
-use Rattle.placed_frames.proofs.Laws.{Down, move_down, move_up, sub_sp, add_sp}
-use Rattle.emit_simulation.specs.Laid.{over, Laid}
-use Rattle.emit_simulation.specs.Starts.{StandAt}
+use Rattle.placed_frames.proofs.Laws.{At, Down, move_down, move_up, sub_sp, add_sp}
+use Rattle.emit_simulation.proofs.Laid.{over, Laid}
+use Rattle.emit_simulation.proofs.Starts.{StandAt}
 use Rattle.emit_simulation.proofs.Flowing.{each_goes}
 
 module _ (fetch : ℕ → Fetched) (flash : List ℕ) (p : Places) (pieces : List Piece) (laid : Laid fetch flash p pieces) where

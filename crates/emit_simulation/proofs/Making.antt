@@ -35,14 +35,14 @@ use Rattle.flat_meaning.specs.Steps.{makes}
 use Rattle.thumb_emit.specs.Emit.{counted_word}
 use Rattle.thumb_emit.specs.InFlash.{Addresses}
 use Rattle.thumb_emit.specs.Bounds.{op_instructions}
-use Rattle.placed_frames.specs.View.{View, with_low, InFlash, ToArena, Quiet, Get, Put}
+use Rattle.placed_frames.proofs.Laws.{View, with_low, InFlash, ToArena, Quiet, Get, Put}
 use Rattle.arena_values.specs.Lies.{Shows}
 use Rattle.arena_values.proofs.Laws.{shows_object, shows_array}
-use Rattle.emit_simulation.specs.Laid.{store_of, OfInstr, OfNumber, OfAddress, Flows, loaded_flags}
+use Rattle.emit_simulation.proofs.Laid.{store_of, OfInstr, OfNumber, OfAddress, Flows, loaded_flags}
 use Rattle.emit_simulation.specs.Starts.{start}
 use Rattle.emit_simulation.specs.Ties.{IsAt, IsShared, IsImage, Means, IsText, IsCode, spots}
-use Rattle.emit_simulation.specs.Context.{view_in, fiber_seen, shared_seen}
-use Rattle.emit_simulation.specs.Makes.{MakesOp}
+use Rattle.emit_simulation.proofs.AtOps.{view_in, fiber_seen, shared_seen}
+use Rattle.emit_simulation.proofs.Makes.{MakesOp}
 use Rattle.emit_simulation.proofs.Placed.{store_low, mov_flows}
 use Rattle.emit_simulation.proofs.Ops.{here}
 use Rattle.emit_simulation.proofs.Turns.{Owed}

@@ -8,8 +8,7 @@ use Rattle.flat_ir.specs.declared.ops.FlatCode.{FlatCode}
 use Rattle.register_assign.specs.declared.places.Placed.{Placed}
 use Rattle.sts_syntax.specs.TypeRules.{entry}
 use Rattle.sts_meaning.specs.Values.{Value}
-use Rattle.arena_values.specs.Words.{AreWords}
-use Rattle.arena_values.proofs.Laws.{is_small}
+use Rattle.arena_values.proofs.Laws.{AreWords, is_small}
 use Rattle.thumb_emit.specs.InFlash.{Addresses}
 use Rattle.emit_simulation.specs.Ties.{bodies, IsText, IsCode, Means, IsImage}
 

@@ -27,19 +27,17 @@ use Rattle.thumb_layout.specs.Holds.{cost}
 use Rattle.thumb_emit.specs.Bounds.{op_instructions, total_cost}
 use Rattle.thumb_emit.proofs.Laws.{brings_still, keeps_still, still_takes}
 use Rattle.thumb_emit.specs.InFlash.{Addresses}
-use Rattle.arena_values.specs.Operators.{prefix_word, operated}
-use Rattle.arena_values.proofs.Laws.{applied_leaves, applied_before_leaves, more_leaves, less_leaves, Leaves as LeavesWord}
-use Rattle.placed_frames.specs.View.{View}
-use Rattle.placed_frames.specs.Places.{get}
-use Rattle.emit_simulation.specs.Laid.{AllFlow, Comes, step_of, steps_of, store_of}
-use Rattle.emit_simulation.specs.Starts.{StandAt, start}
+use Rattle.arena_values.proofs.Laws.{prefix_word, operated, applied_leaves, applied_before_leaves, more_leaves, less_leaves, Leaves as LeavesWord}
+use Rattle.placed_frames.proofs.Laws.{View, get}
+use Rattle.emit_simulation.proofs.Laid.{AllFlow, Comes, step_of, steps_of, store_of}
+use Rattle.emit_simulation.specs.Starts.{start}
+use Rattle.emit_simulation.proofs.Starts.{StandAt, first_of, rest_of}
 use Rattle.emit_simulation.specs.Ties.{IsAt, IsShared, IsImage, IsText, IsCode, Means, spots, place_in, return_to, frames_of}
-use Rattle.emit_simulation.specs.Context.{view_in, bank_in}
-use Rattle.emit_simulation.specs.Leaving.{AllLeave}
-use Rattle.emit_simulation.specs.Makes.{MakesOp}
+use Rattle.emit_simulation.proofs.AtOps.{view_in, bank_in}
+use Rattle.emit_simulation.proofs.Leaving.{AllLeave}
+use Rattle.emit_simulation.proofs.Makes.{MakesOp}
 use Rattle.emit_simulation.proofs.Flowing.{flows, flows_one, then}
 use Rattle.emit_simulation.proofs.Placed.{brought, brought_word, brought_other, brought_store, brought_length, register_small, not_scratch, result_over, kept_view, kept_shared, kept_low, store_kept, made_small, made_not}
-use Rattle.emit_simulation.proofs.Starts.{first_of, rest_of}
 use Rattle.emit_simulation.proofs.Straight.{keeps_last}
 use Rattle.emit_simulation.proofs.Context.{base_fits}
 use Rattle.emit_simulation.proofs.Meanings.{are_words, small}

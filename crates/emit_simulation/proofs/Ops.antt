@@ -18,8 +18,7 @@ use Rattle.sts_meaning.specs.Values.{Value, with_entry}
 use Rattle.sts_meaning.specs.Heaps.{FlatHeap}
 use Rattle.flat_meaning.specs.Frames.{FlatFrame, FlatActivity, Stands, given}
 use Rattle.arena_values.specs.Lies.{Shows}
-use Rattle.placed_frames.specs.View.{View, with_low, At}
-use Rattle.placed_frames.specs.Places.{get}
+use Rattle.placed_frames.proofs.Laws.{View, with_low, At, get}
 use Rattle.placed_frames.specs.Frames.{Running}
 use Rattle.thumb_code.specs.declared.register_file.Registers.{Registers}
 use Rattle.thumb_layout.specs.declared.pieces.Piece.{Piece}
@@ -28,12 +27,13 @@ use Rattle.thumb_emit.specs.Emit.{op_pieces, function_pieces}
 use Rattle.thumb_emit.proofs.Laws.{op_takes}
 use Rattle.thumb_emit.specs.Bounds.{op_instructions, total_cost}
 use Rattle.thumb_emit.specs.InFlash.{Addresses}
-use Rattle.emit_simulation.specs.Laid.{Comes, Flows, AllFlow, steps_of, store_of}
-use Rattle.emit_simulation.specs.Starts.{StandAt, start}
+use Rattle.emit_simulation.proofs.Laid.{Comes, Flows, AllFlow, steps_of, store_of}
+use Rattle.emit_simulation.specs.Starts.{start}
+use Rattle.emit_simulation.proofs.Starts.{StandAt}
 use Rattle.emit_simulation.specs.Ties.{IsAt, AtOp, IsShared, IsImage, Means, spots, place_in, return_to, frames_of}
-use Rattle.emit_simulation.specs.Context.{view_in, bank_in, fiber_seen, shared_seen, AtOpOf}
+use Rattle.emit_simulation.proofs.AtOps.{view_in, bank_in, fiber_seen, shared_seen, AtOpOf}
 use Rattle.emit_simulation.proofs.Flowing.{flows}
-use Rattle.emit_simulation.specs.Leaving.{StandsIn}
+use Rattle.emit_simulation.proofs.Leaving.{StandsIn}
 use Rattle.emit_simulation.proofs.Placed.{brought, kept_view, store_kept, kept_low, kept_shared, put_result}
 use Rattle.emit_simulation.proofs.Straight.{runs_with, keeps_last, brings_read, reads as reads_to}
 use Rattle.emit_simulation.proofs.Turns.{Owed, makes_goes}

@@ -23,14 +23,13 @@ use Rattle.thumb_emit.specs.Emit.{passes}
 use Rattle.thumb_emit.proofs.Laws.{brings_still, still_takes}
 use Rattle.thumb_emit.specs.Bounds.{total_cost}
 use Rattle.thumb_emit.specs.InFlash.{Addresses}
-use Rattle.placed_frames.specs.View.{View, PutOwn}
-use Rattle.placed_frames.specs.Places.{Store, value, get, IsRoom, words}
+use Rattle.placed_frames.proofs.Laws.{View, PutOwn, value_set, frames_stay, room, get, IsRoom}
+use Rattle.placed_frames.specs.Places.{Store, value, words}
 use Rattle.placed_frames.specs.Frames.{HasFrame, HasWaiting, HasFrames, Waits, saved, saved_at, words_at, writes_at, outgoing_at}
-use Rattle.placed_frames.proofs.Laws.{value_set, frames_stay, room}
-use Rattle.emit_simulation.specs.Laid.{Flows, OfInstr, AllFlow, store_of}
+use Rattle.emit_simulation.proofs.Laid.{Flows, OfInstr, AllFlow, store_of}
 use Rattle.emit_simulation.specs.Starts.{start}
 use Rattle.emit_simulation.specs.Ties.{IsAt, IsShared, IsImage, Means, spots, place_in, place_at, return_to, frame_of, frames_of}
-use Rattle.emit_simulation.specs.Context.{view_in}
+use Rattle.emit_simulation.proofs.AtOps.{view_in}
 use Rattle.emit_simulation.proofs.Placed.{brought, brought_word, brought_store, brought_length, brings_flows}
 use Rattle.emit_simulation.proofs.Ops.{here, word, word_small}
 

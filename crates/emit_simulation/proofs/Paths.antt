@@ -13,7 +13,7 @@ use Rattle.thumb_code.specs.Effect.{effect}
 use Rattle.bank_model.specs.Bank.{Bank, bank_sp, next_free, lowered, is_own, bank_load, bank_store, bank_move, bank_memory}
 use Rattle.bank_model.specs.Fibers.{Fiber, Shared}
 use Rattle.bank_model.specs.BoardMachine.{fibers, turn_of, memory_of, fiber_of, shared_in}
-use Rattle.emit_simulation.specs.Laid.{Fm, over}
+use Rattle.emit_simulation.proofs.Laid.{Fm, over}
 
 -- flash and base stay
 abbrev Keeps : Fm → Fm → Type 0

@@ -4,19 +4,17 @@ use Rattle.std.proofs.lemmas.List.{length-set}
 use Rattle.std.proofs.lemmas.Bool.{cases_eq}
 use Rattle.std.proofs.lemmas.Bool.Decides.{nat_tests}
 use Rattle.thumb_code.specs.declared.instructions.Instr.TheVariants.{MovHigh, LdrSp, StrSp}
-use Rattle.placed_frames.specs.View.{View, with_low, Alters, Quiet, GetOwn, PutOwn}
+use Rattle.placed_frames.proofs.Laws.{View, with_low, Alters, Quiet, GetOwn, PutOwn, four, put, get, IsRoom}
 use Rattle.flat_ir.specs.declared.ops.Function.{Function}
 use Rattle.register_assign.specs.declared.places.Place.{Place}
 use Rattle.register_assign.specs.declared.places.Place.TheVariants.{Reg, Slot, Incoming}
 use Rattle.register_assign.specs.Sound.{IsWithin}
-use Rattle.placed_frames.proofs.Laws.{four}
-use Rattle.placed_frames.specs.Places.{Store, words, put, get, IsRoom}
+use Rattle.placed_frames.specs.Places.{Store, words}
 use Rattle.thumb_layout.specs.declared.pieces.Piece.TheVariants.{Plain, Label}
 use Rattle.thumb_layout.specs.Pieces.{Places}
 use Rattle.thumb_emit.specs.Frame.{from_place, to_place, register_of, brings, result_in, keeps, lands, copies, carries}
-use Rattle.emit_simulation.specs.Laid.{Flows, AllFlow, OfInstr, OfLabel, steps_of}
-use Rattle.emit_simulation.specs.Leaving.{StandsIn}
-use Rattle.emit_simulation.specs.Laid.{store_of}
+use Rattle.emit_simulation.proofs.Laid.{Flows, AllFlow, OfInstr, OfLabel, steps_of, store_of}
+use Rattle.emit_simulation.proofs.Leaving.{StandsIn}
 
 -- a scratch register is none of r4 to r7
 pub store_low : (k w : ℕ) (v : View) → k < 4 → store_of (with_low k w v) ≡ store_of v

@@ -24,14 +24,13 @@ use Rattle.flat_meaning.specs.Frames.{FlatFrame, Stands, given}
 use Rattle.flat_meaning.specs.Steps.{FlatTurn}
 use Rattle.thumb_emit.specs.InFlash.{Addresses}
 use Rattle.thumb_emit.specs.Bounds.{op_instructions}
-use Rattle.placed_frames.specs.View.{View, with_low, InArena, ToArena, Get, GetAt, Put}
-use Rattle.arena_values.specs.Seen.{Header, ItemPopped, NoItem, PopsItem}
-use Rattle.arena_values.proofs.Laws.{pops, words_unequal}
-use Rattle.emit_simulation.specs.Laid.{OfInstr, Flows, store_of}
+use Rattle.placed_frames.proofs.Laws.{View, with_low, InArena, ToArena, Get, GetAt, Put}
+use Rattle.arena_values.proofs.Laws.{Header, ItemPopped, NoItem, PopsItem, pops, words_unequal}
+use Rattle.emit_simulation.proofs.Laid.{OfInstr, Flows, store_of}
 use Rattle.emit_simulation.specs.Starts.{start}
 use Rattle.emit_simulation.specs.Ties.{IsAt, IsShared, IsImage, Means, IsText, IsCode, spots}
-use Rattle.emit_simulation.specs.Context.{view_in}
-use Rattle.emit_simulation.specs.Makes.{MakesOp}
+use Rattle.emit_simulation.proofs.AtOps.{view_in}
+use Rattle.emit_simulation.proofs.Makes.{MakesOp}
 use Rattle.emit_simulation.proofs.Placed.{store_low, result_set, not_scratch, brought, brought_length, brought_store, made_small}
 use Rattle.thumb_emit.specs.Frame.{register_of, result_in}
 use Rattle.emit_simulation.proofs.Meanings.{small}

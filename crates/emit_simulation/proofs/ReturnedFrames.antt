@@ -27,14 +27,13 @@ use Rattle.flat_meaning.specs.Frames.{FlatFrame}
 use Rattle.thumb_emit.specs.Emit.{function_pieces}
 use Rattle.thumb_emit.specs.Frame.{from_place, raises, below_saved, saved_list}
 use Rattle.thumb_emit.specs.InFlash.{Addresses}
-use Rattle.placed_frames.specs.View.{View, with_low, registers_of, bank_of, At}
+use Rattle.placed_frames.proofs.Laws.{View, with_low, registers_of, bank_of, At, AllWords, Bm, at_view, run, run_length, run_listed, pop_is, pops_words, get_from, get_at, get_length, get_words, filled_length, filled_below, filled_above, filled_at, four, Shifted, frames_shift, frames_small, room}
 use Rattle.placed_frames.specs.Places.{own, words}
 use Rattle.placed_frames.specs.Frames.{HasFrames, AreWords, saved_word, saved}
-use Rattle.placed_frames.proofs.Laws.{AllWords, Bm, at_view, run, run_length, run_listed, pop_is, pops_words, get_from, get_at, get_length, get_words, filled_length, filled_below, filled_above, filled_at, four, Shifted, frames_shift, frames_small, room}
-use Rattle.emit_simulation.specs.Laid.{over, store_of}
+use Rattle.emit_simulation.proofs.Laid.{over, store_of}
 use Rattle.emit_simulation.specs.Starts.{start}
 use Rattle.emit_simulation.specs.Ties.{IsAt, IsShared, IsImage, Means, spots, place_in, return_to, frames_of}
-use Rattle.emit_simulation.specs.Context.{view_in, bank_in}
+use Rattle.emit_simulation.proofs.AtOps.{view_in, bank_in}
 use Rattle.emit_simulation.proofs.Flowing.{flows_one, each_goes}
 use Rattle.emit_simulation.proofs.Starts.{first_of, rest_of, later}
 use Rattle.emit_simulation.proofs.Ops.{here, word, reads_word}

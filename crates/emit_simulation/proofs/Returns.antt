@@ -46,14 +46,14 @@ use Rattle.thumb_emit.proofs.Laws.{lands_still, still_takes}
 use Rattle.thumb_emit.specs.Bounds.{op_instructions}
 use Rattle.thumb_emit.specs.InFlash.{Addresses}
 use Rattle.arena_values.specs.Lies.{Shows}
-use Rattle.placed_frames.specs.View.{registers_of, bank_of}
+use Rattle.placed_frames.proofs.Laws.{registers_of, bank_of}
 use Rattle.placed_frames.specs.Places.{words}
 use Rattle.placed_frames.specs.Frames.{HasFrame, HasFrames, HasWaiting, Running, Waits, saved_at, words_at, writes_at}
-use Rattle.emit_simulation.specs.Laid.{Fm, over, Laid, IsEven, step_of, store_of}
+use Rattle.emit_simulation.proofs.Laid.{Fm, over, Laid, IsEven, step_of, store_of}
 use Rattle.emit_simulation.specs.Starts.{start}
 use Rattle.emit_simulation.specs.Ties.{IsAt, AtEntry, AtOp, IsShared, IsImage, Means, spots, place_in, place_at, return_in, return_to, frame_of, frames_of, calls_at, calling_of, stack_end}
-use Rattle.emit_simulation.specs.Context.{view_in, bank_in}
-use Rattle.emit_simulation.specs.Makes.{MakesOp}
+use Rattle.emit_simulation.proofs.AtOps.{view_in, bank_in}
+use Rattle.emit_simulation.proofs.Makes.{MakesOp}
 use Rattle.emit_simulation.proofs.Flowing.{flows_one}
 use Rattle.emit_simulation.proofs.Placed.{landed_view, landed_low, landed_shared}
 use Rattle.emit_simulation.proofs.Paths.{path}

@@ -32,13 +32,13 @@ use Rattle.thumb_emit.specs.Emit.{loads, answers_in_r0, asks}
 use Rattle.thumb_emit.specs.Frame.{lands, idle_piece}
 use Rattle.thumb_emit.specs.InFlash.{Addresses}
 use Rattle.thumb_emit.specs.Bounds.{op_instructions, total_cost}
-use Rattle.placed_frames.specs.View.{View, with_low, Quiet}
+use Rattle.placed_frames.proofs.Laws.{View, with_low, Quiet}
 use Rattle.arena_values.specs.Lies.{Shows}
 use Rattle.arena_values.proofs.Laws.{answer_reads}
-use Rattle.emit_simulation.specs.Laid.{OfInstr, Flows, AllFlow, store_of}
+use Rattle.emit_simulation.proofs.Laid.{OfInstr, Flows, AllFlow, store_of}
 use Rattle.emit_simulation.specs.Starts.{start}
 use Rattle.emit_simulation.specs.Ties.{IsAt, IsTied, IsShared, IsImage, Means, ties, spots}
-use Rattle.emit_simulation.specs.Context.{fiber_seen, shared_seen}
+use Rattle.emit_simulation.proofs.AtOps.{fiber_seen, shared_seen}
 use Rattle.emit_simulation.proofs.Placed.{store_low}
 use Rattle.emit_simulation.proofs.Ops.{here}
 use Rattle.emit_simulation.proofs.Turns.{Owed, going, onward, tied_now}

@@ -17,7 +17,7 @@ use Rattle.sts_implements.specs.Passes.{trailing_instructions}
 use Rattle.flat_meaning.specs.Frames.{FlatActivity}
 use Rattle.flat_meaning.specs.Steps.{flat}
 use Rattle.thumb_emit.specs.InFlash.{Addresses}
-use Rattle.emit_simulation.specs.Laid.{Fm}
+use Rattle.emit_simulation.proofs.Laid.{Fm}
 use Rattle.emit_simulation.specs.Ties.{IsTied, IsShared, ties}
 use Rattle.emit_simulation.proofs.Turns.{Owed, Asking, going}
 

@@ -20,11 +20,11 @@ use Rattle.thumb_emit.specs.Frame.{result_in}
 use Rattle.thumb_emit.specs.Ready.{HasNumber}
 use Rattle.thumb_emit.specs.InFlash.{Addresses}
 use Rattle.thumb_emit.proofs.Laws.{text_named}
-use Rattle.placed_frames.specs.View.{View, with_low}
-use Rattle.emit_simulation.specs.Laid.{loaded_flags, OfNumber, OfAddress}
+use Rattle.placed_frames.proofs.Laws.{View, with_low}
+use Rattle.emit_simulation.proofs.Laid.{loaded_flags, OfNumber, OfAddress}
 use Rattle.emit_simulation.specs.Ties.{IsImage, Means, bodies, spots, place_in, return_to, frames_of}
-use Rattle.emit_simulation.specs.Context.{view_in}
-use Rattle.emit_simulation.specs.Makes.{MakesOp}
+use Rattle.emit_simulation.proofs.AtOps.{view_in}
+use Rattle.emit_simulation.proofs.Makes.{MakesOp}
 use Rattle.emit_simulation.proofs.Placed.{result_set, copied, made_small}
 use Rattle.emit_simulation.proofs.Context.{all_at, mapped_at}
 use Rattle.emit_simulation.proofs.Meanings.{small}

@@ -32,17 +32,15 @@ use Rattle.flat_meaning.specs.Steps.{called}
 use Rattle.thumb_emit.specs.Emit.{passes, land, calls_slot, op_pieces, function_pieces}
 use Rattle.thumb_emit.specs.Bounds.{op_instructions}
 use Rattle.thumb_emit.specs.InFlash.{Addresses}
-use Rattle.arena_values.specs.Seen.{SeesClass, ClassSeen}
-use Rattle.arena_values.proofs.Laws.{sees_class}
-use Rattle.placed_frames.specs.View.{View, with_low, registers_of, bank_of, GetOwn, Get, InArena, InFlash as InFlashAt}
-use Rattle.placed_frames.specs.Places.{Store, get}
+use Rattle.arena_values.proofs.Laws.{SeesClass, ClassSeen, sees_class}
+use Rattle.placed_frames.proofs.Laws.{View, with_low, registers_of, bank_of, GetOwn, Get, InArena, InFlash as InFlashAt, at_view, quiet_does, room, get}
+use Rattle.placed_frames.specs.Places.{Store}
 use Rattle.placed_frames.specs.Frames.{HasFrames}
-use Rattle.placed_frames.proofs.Laws.{at_view, quiet_does, room}
-use Rattle.emit_simulation.specs.Laid.{over, Comes, OfInstr, store_of}
+use Rattle.emit_simulation.proofs.Laid.{over, Comes, OfInstr, store_of}
 use Rattle.emit_simulation.specs.Starts.{start}
 use Rattle.emit_simulation.specs.Ties.{IsAt, IsShared, IsImage, IsText, IsCode, Means, spots, place_in, return_to, frames_of}
-use Rattle.emit_simulation.specs.Context.{view_in, bank_in}
-use Rattle.emit_simulation.specs.Makes.{MakesOp}
+use Rattle.emit_simulation.proofs.AtOps.{view_in, bank_in}
+use Rattle.emit_simulation.proofs.Makes.{MakesOp}
 use Rattle.emit_simulation.proofs.Flowing.{flows, each_goes}
 use Rattle.emit_simulation.proofs.Starts.{first_of}
 use Rattle.emit_simulation.proofs.Placed.{store_low}

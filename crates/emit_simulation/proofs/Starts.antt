@@ -9,7 +9,11 @@ use Rattle.register_assign.specs.Sound.{place_of}
 use Rattle.thumb_layout.specs.declared.pieces.Piece.{Piece}
 use Rattle.thumb_layout.specs.declared.pieces.Piece.TheVariants.{Label}
 use Rattle.thumb_emit.specs.Emit.{op_pieces, ops_pieces, entry_pieces, function_pieces}
-use Rattle.emit_simulation.specs.Starts.{StandAt, ops_length, start}
+use Rattle.emit_simulation.specs.Starts.{ops_length, start}
+
+-- these pieces stand among others, from piece i on
+abbrev pub StandAt : List Piece → ℕ → List Piece → Type 0
+StandAt pieces i xs = (n : ℕ) → n < length xs → slice_get pieces (i + n) ≡ slice_get xs n
 
 before : (xs ys : List Piece) (n : ℕ) → n < length xs → slice_get (xs ++ ys) n ≡ slice_get xs n
 before [] ys n l = absurd (omega arith)

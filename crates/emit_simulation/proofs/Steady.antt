@@ -17,9 +17,8 @@ use Rattle.register_assign.specs.declared.places.Placed.{Placed}
 use Rattle.thumb_emit.specs.Emit.{function_pieces}
 use Rattle.thumb_emit.specs.InFlash.{Addresses, callee_at, word_for}
 use Rattle.thumb_emit.proofs.Laws.{function_sound, function_words}
-use Rattle.placed_frames.specs.View.{View, Alters, registers_of, bank_of, At}
-use Rattle.placed_frames.proofs.Laws.{does, quiet_does, at_view}
-use Rattle.emit_simulation.specs.Laid.{over, Flows, OfInstr, OfLabel, OfNumber, OfAddress}
+use Rattle.placed_frames.proofs.Laws.{View, Alters, registers_of, bank_of, At, does, quiet_does, at_view}
+use Rattle.emit_simulation.proofs.Laid.{over, Flows, OfInstr, OfLabel, OfNumber, OfAddress}
 use Rattle.emit_simulation.specs.Ties.{IsImage, spots}
 use Rattle.emit_simulation.proofs.Context.{base_fits, mapped_at}
 

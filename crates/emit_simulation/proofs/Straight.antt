@@ -8,12 +8,10 @@ use Rattle.register_assign.specs.Sound.{IsWithin}
 use Rattle.thumb_layout.specs.Pieces.{Places}
 use Rattle.thumb_emit.specs.Frame.{from_place, result_in, brings, keeps, lands}
 use Rattle.sts_meaning.specs.Values.{Value, with_entry}
-use Rattle.placed_frames.specs.View.{View, with_low}
-use Rattle.placed_frames.specs.Places.{get, IsRoom}
+use Rattle.placed_frames.proofs.Laws.{View, with_low, puts as running_puts, room, get, IsRoom}
 use Rattle.placed_frames.specs.Frames.{Frame, Running}
-use Rattle.placed_frames.proofs.Laws.{puts as running_puts, room}
-use Rattle.emit_simulation.specs.Laid.{Flows, store_of}
-use Rattle.emit_simulation.specs.Leaving.{StandsIn}
+use Rattle.emit_simulation.proofs.Laid.{Flows, store_of}
+use Rattle.emit_simulation.proofs.Leaving.{StandsIn}
 use Rattle.emit_simulation.proofs.Placed.{gets, brings_flows, brought, keeps_flows, kept_view, put_result, lands_flows, landed_view, store_landed}
 
 entry_apart : (to t : ℕ) (value : Value) (temps : ℕ → Value) → (t ≡ to → ⊥) → with_entry to value temps t ≡ temps t

@@ -25,12 +25,11 @@ use Rattle.register_assign.specs.declared.places.Placed.{Placed}
 use Rattle.flat_meaning.specs.Frames.{FlatActivity}
 use Rattle.sts_implements.specs.Passes.{trailing_instructions}
 use Rattle.thumb_emit.specs.InFlash.{Addresses}
-use Rattle.placed_frames.specs.View.{View, registers_of, bank_of, At}
-use Rattle.placed_frames.proofs.Laws.{sp_has, sp_stays, least, Bm}
-use Rattle.emit_simulation.specs.Laid.{Fm, over, Laid, Comes}
+use Rattle.placed_frames.proofs.Laws.{View, registers_of, bank_of, At, sp_has, sp_stays, least, Bm}
+use Rattle.emit_simulation.proofs.Laid.{Fm, over, Laid, Comes}
 use Rattle.emit_simulation.specs.Ties.{IsTied, IsShared, ties}
-use Rattle.emit_simulation.specs.Context.{view_in, bank_in, fiber_seen, shared_seen}
-use Rattle.emit_simulation.specs.Makes.{Makes}
+use Rattle.emit_simulation.proofs.AtOps.{view_in, bank_in, fiber_seen, shared_seen}
+use Rattle.emit_simulation.proofs.Makes.{Makes}
 use Rattle.emit_simulation.proofs.Paths.{path}
 
 -- the last of some steps

@@ -32,18 +32,16 @@ use Rattle.arena_values.specs.Lies.{Shows}
 use Rattle.thumb_emit.specs.Frame.{register_of, brings, keeps, result_in}
 use Rattle.thumb_emit.proofs.Laws.{brings_still, keeps_still, still_takes}
 use Rattle.register_assign.specs.Sound.{IsWithin}
-use Rattle.emit_simulation.specs.Leaving.{StandsIn}
-use Rattle.arena_values.specs.Seen.{IsNull}
+use Rattle.emit_simulation.proofs.Leaving.{StandsIn}
+use Rattle.arena_values.proofs.Laws.{IsNull, words_unequal}
 use Rattle.std.specs.Prelude.{Contains}
 use Rattle.thumb_emit.specs.Emit.{op_pieces, function_pieces}
 use Rattle.thumb_emit.specs.InFlash.{Addresses}
-use Rattle.placed_frames.specs.View.{View, registers_of, bank_of, Quiet}
-use Rattle.placed_frames.proofs.Laws.{at_view}
-use Rattle.arena_values.proofs.Laws.{words_unequal}
-use Rattle.emit_simulation.specs.Laid.{Flows, OfInstr, OfLabel, step_of, store_of, over}
+use Rattle.placed_frames.proofs.Laws.{View, registers_of, bank_of, Quiet, at_view}
+use Rattle.emit_simulation.proofs.Laid.{Flows, OfInstr, OfLabel, step_of, store_of, over}
 use Rattle.emit_simulation.specs.Starts.{start}
 use Rattle.emit_simulation.specs.Ties.{IsAt, IsShared, IsImage, Means, spots, place_in, return_to, frames_of}
-use Rattle.emit_simulation.specs.Context.{view_in, bank_in, shared_seen}
+use Rattle.emit_simulation.proofs.AtOps.{view_in, bank_in, shared_seen}
 use Rattle.emit_simulation.proofs.Flowing.{flows_one, then, branches, passes_by}
 use Rattle.emit_simulation.proofs.Turns.{Owed, Asking, asking, makes_panic}
 use Rattle.emit_simulation.proofs.Ops.{Reached, here, pc_behind, wider, goes_to, runs_same, word, word_means, word_small, brings_word}

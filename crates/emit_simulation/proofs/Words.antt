@@ -21,10 +21,10 @@ use Rattle.thumb_emit.specs.Frame.{carries}
 use Rattle.thumb_emit.specs.Emit.{beside, decides, compares, combines, shifts, divides, unary, binary}
 use Rattle.thumb_layout.specs.Holds.{cost}
 use Rattle.thumb_emit.specs.Bounds.{total_cost}
-use Rattle.arena_values.specs.Operators.{compared, shifted_by, operated, prefix_word}
-use Rattle.placed_frames.specs.View.{View, with_low, Alters, Quiet}
-use Rattle.emit_simulation.specs.Laid.{Laid, Flows, OfInstr, OfLabel, AllFlow, Comes, steps_of}
-use Rattle.emit_simulation.specs.Leaving.{AllLeave, StandsIn}
+use Rattle.arena_values.proofs.Laws.{compared, shifted_by, operated, prefix_word}
+use Rattle.placed_frames.proofs.Laws.{View, with_low, Alters, Quiet}
+use Rattle.emit_simulation.proofs.Laid.{Laid, Flows, OfInstr, OfLabel, AllFlow, Comes, steps_of}
+use Rattle.emit_simulation.proofs.Leaving.{AllLeave, StandsIn}
 use Rattle.emit_simulation.proofs.Flowing.{flows, branches, passes_by, then}
 use Rattle.emit_simulation.proofs.Placed.{moved, moves_flows, moved_word, moved_other, moved_length, mov_flows}
 use Rattle.emit_simulation.proofs.Starts.{first_of, rest_of, stand_as}

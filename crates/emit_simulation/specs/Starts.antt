@@ -1,14 +1,9 @@
 -- Where the pieces of an op begin among those of its function.
-use Rattle.std.specs.Prelude.{◌≡◌, ℕ, zero, suc, ◌+◌, ◌<◌, List, [], ◌∷◌, length, slice_get}
+use Rattle.std.specs.Prelude.{ℕ, zero, suc, ◌+◌, List, [], ◌∷◌, length}
 use Rattle.flat_ir.specs.declared.ops.Op.{Op}
 use Rattle.flat_ir.specs.declared.ops.Function.{Function}
 use Rattle.register_assign.specs.declared.places.Place.{Place}
-use Rattle.thumb_layout.specs.declared.pieces.Piece.{Piece}
 use Rattle.thumb_emit.specs.Emit.{op_pieces, entry_pieces}
-
--- these pieces stand among others, from piece i on
-abbrev pub StandAt : List Piece → ℕ → List Piece → Type 0
-StandAt pieces i xs = (n : ℕ) → n < length xs → slice_get pieces (i + n) ≡ slice_get xs n
 
 module _ (f : Function) (place : ℕ → Place) where
   -- how many pieces the first n of these ops have, the first of which is op k, with their labels

@@ -4,7 +4,7 @@ use Rattle.thumb_code.specs.RegisterFile.{word}
 use Rattle.thumb_code.specs.Forms.{Access}
 use Rattle.thumb_code.specs.Map.{flash_end, globals_at, arena_at, stack_at, ram_end, access_fault, low_bytes, number_in, sp_in_range, flash_word}
 use Rattle.bank_model.specs.Bank.{Bank, bank_sp, bank_load, bank_store, bank_move}
-use Rattle.placed_frames.specs.View.{At}
+use Rattle.placed_frames.proofs.View.{At}
 
 pub yes : (x y : ℕ) → x < y → nat_lt x y ≡ true
 yes x y l = grind arith

@@ -10,8 +10,9 @@ use Rattle.register_assign.specs.declared.places.Place.TheVariants.{Reg, Slot, I
 use Rattle.register_assign.specs.Sound.{place_of, IsWithin, ArePlacesSound}
 use Rattle.register_assign.specs.Saving.{registers_to, saves}
 use Rattle.register_assign.proofs.Laws.{saves_each}
-use Rattle.placed_frames.specs.Places.{Store, own, words, put, get, move, moved, IsRoom}
-use Rattle.placed_frames.specs.Frames.{Frame, saved_word, saved, outgoing_of, HasFrame, HasFrames, Running, AreWords}
+use Rattle.placed_frames.specs.Places.{Store, own, words}
+use Rattle.placed_frames.proofs.Putting.{put, get, move, moved, IsRoom}
+use Rattle.placed_frames.specs.Frames.{Frame, saved, outgoing_of, HasFrame, HasFrames, Running, AreWords}
 use Rattle.placed_frames.proofs.Puts.{put_same, put_other, put_room, put_small, moved_params, moved_small}
 use Rattle.placed_frames.proofs.Kept.{four, saved_set, saved_changed, frames_stay, frames_shift, frames_room, Shifted, at_sum}
 

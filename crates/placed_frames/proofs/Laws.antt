@@ -1,4 +1,6 @@
--- Lemmas that other crates cite.
+-- What proofs of other crates cite: what a fiber sees and what instructions do to it, and words put into places; then lemmas.
+pub use Rattle.placed_frames.proofs.View.{View, with_low, registers_of, bank_of, InFlash, InGlobals, InArena, ToGlobals, ToArena, Alters, Quiet, GetOwn, PutOwn, Get, GetAt, Put, PutAt, At}
+pub use Rattle.placed_frames.proofs.Putting.{put, get, move, moved, IsRoom}
 pub use Rattle.placed_frames.proofs.Accesses.{flash_fault, flash_load, sp_has, sp_stays}
 pub use Rattle.placed_frames.proofs.Calls.{HasPushed, calls, pushed, puts, room}
 pub use Rattle.placed_frames.proofs.Kept.{Shifted, four, frames_room, frames_shift, frames_small, frames_stay, value_set}

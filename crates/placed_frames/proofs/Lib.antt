@@ -1,3 +1,5 @@
+pub mod View
+pub mod Putting
 pub mod Accesses
 pub mod Plain
 pub mod Stack

@@ -8,7 +8,7 @@ use Rattle.thumb_code.specs.Effect.{effect, Effect, ends, Goes, stores}
 use Rattle.thumb_code.specs.Memory.{Executed, Done, execute_moving}
 use Rattle.thumb_code.specs.Map.{globals_at, arena_at, access_fault, flash_word}
 use Rattle.bank_model.specs.Bank.{Bank, bank_memory, bank_load, bank_store, bank_move}
-use Rattle.placed_frames.specs.View.{View, with_low, registers_of, bank_of, Reads, InFlash, InGlobals, InArena, Stores, ToGlobals, ToArena, Alters, Quiet, GetOwn, PutOwn, Get, GetAt, Put, PutAt, At}
+use Rattle.placed_frames.proofs.View.{View, with_low, registers_of, bank_of, Reads, InFlash, InGlobals, InArena, Stores, ToGlobals, ToArena, Alters, Quiet, GetOwn, PutOwn, Get, GetAt, Put, PutAt, At}
 use Rattle.placed_frames.proofs.Accesses.{word_at, own_at, own_fault, own_load, own_store, arena_fault, arena_load, arena_store, globals_fault, globals_load, globals_store, flash_fault, flash_load, sp_stays, sp_has}
 
 abbrev pub Bm : Bank × List ℕ → ℕ → Effect → Executed (Bank × List ℕ)

@@ -6,7 +6,8 @@ use Rattle.register_assign.specs.declared.places.Place.{Place}
 use Rattle.register_assign.specs.declared.places.Place.TheVariants.{Reg, Slot, Incoming}
 use Rattle.register_assign.specs.Sound.{place_of, IsWithin, ArePlacesSound}
 use Rattle.placed_frames.specs.Frames.{AreWords}
-use Rattle.placed_frames.specs.Places.{Store, words, put, get, move, moved, IsRoom}
+use Rattle.placed_frames.specs.Places.{Store, words}
+use Rattle.placed_frames.proofs.Putting.{put, get, move, moved, IsRoom}
 
 pub put_same : (f : Function) (p : Place) (v : ℕ) (s : Store) → IsWithin f p → IsRoom f s → get f p (put f p v s) ≡ v
 put_same f (Reg r) v s i h = let e = h.four in get_or-set_same s.kept (r - 4) v 0 (omega arith)

@@ -1,9 +1,9 @@
 -- The registers from r4 on in the list of PUSH and POP, the words that go from them, and those that come into them.
-use Rattle.std.proofs.Common.{zero, suc, ◌≡◌, ℕ, ◌+◌, ◌-◌, ◌<◌, ◌≤◌, ◌^◌, List, [], ◌∷◌, ◌++◌, length, true, refl, ap, ◌∙◌, subst, sym, arith, slice_set, slice_index, get_or-set_same, get_or-set_other}
+use Rattle.std.proofs.Common.{zero, suc, ◌≡◌, ℕ, ◌+◌, ◌-◌, ◌<◌, ◌≤◌, ◌^◌, List, [], ◌∷◌, ◌++◌, length, true, refl, ap, ◌∙◌, subst, arith, slice_set, slice_index, get_or-set_same, get_or-set_other}
 use Rattle.std.proofs.lemmas.List.{length-set}
 use Rattle.thumb_code.specs.declared.instructions.Instr.TheVariants.{Push, Pop}
 use Rattle.thumb_code.specs.declared.register_file.Registers.{Registers}
-use Rattle.thumb_code.specs.RegisterFile.{low, listed, listed_from, values, filled}
+use Rattle.thumb_code.specs.RegisterFile.{listed, listed_from, values, filled}
 use Rattle.thumb_code.specs.Effect.{effect, pushes, pops}
 use Rattle.placed_frames.proofs.Stack.{AllWords, get_from}
 

@@ -8,7 +8,7 @@ use Rattle.thumb_code.specs.Effect.{effect, Outcome, Goes, Access, word_accesses
 use Rattle.thumb_code.specs.Memory.{Done, first_fault, store_all, load_all}
 use Rattle.thumb_code.specs.Map.{stack_at, sp_in_range}
 use Rattle.bank_model.specs.Bank.{Bank, bank_sp, bank_memory, bank_move, lowered, next_free}
-use Rattle.placed_frames.specs.View.{At}
+use Rattle.placed_frames.proofs.View.{At}
 use Rattle.placed_frames.proofs.Accesses.{yes, no, Own, own_at, own_fault, own_load, own_store, sp_stays}
 use Rattle.placed_frames.proofs.Plain.{Bm}
 

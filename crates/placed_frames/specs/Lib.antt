@@ -1,3 +1,2 @@
-pub mod View
 pub mod Places
 pub mod Frames

@@ -15,9 +15,10 @@ use Rattle.register_assign.specs.Unread.{is_unread}
 use Rattle.flat_meaning.specs.Frames.{FlatFrame}
 use Rattle.thumb_emit.specs.Emit.{op_pieces, function_pieces}
 use Rattle.thumb_emit.specs.InFlash.{Addresses}
-use Rattle.placed_frames.specs.View.{View, At}
-use Rattle.emit_simulation.specs.Laid.{Laid}
-use Rattle.emit_simulation.specs.Starts.{StandAt, start}
+use Rattle.placed_frames.proofs.Laws.{View, At}
+use Rattle.emit_simulation.proofs.Laid.{Laid}
+use Rattle.emit_simulation.specs.Starts.{start}
+use Rattle.emit_simulation.proofs.Starts.{StandAt}
 use Rattle.emit_simulation.specs.Ties.{spots}
 
 -- what a fiber sees, and its bank

@@ -5,9 +5,9 @@ use Rattle.thumb_code.specs.Step.{Fetched}
 use Rattle.bank_model.specs.Bank.{Bank}
 use Rattle.thumb_layout.specs.declared.pieces.Piece.{Piece}
 use Rattle.thumb_layout.specs.Pieces.{Places}
-use Rattle.placed_frames.specs.View.{View, At}
-use Rattle.emit_simulation.specs.Laid.{Comes}
-use Rattle.emit_simulation.specs.Starts.{StandAt}
+use Rattle.placed_frames.proofs.Laws.{View, At}
+use Rattle.emit_simulation.proofs.Laid.{Comes}
+use Rattle.emit_simulation.proofs.Starts.{StandAt}
 
 -- A word stands in a register. Of r4 to r7 the others are as they were, and so is the bank.
 pub record StandsIn (register word : ℕ) (before after : View) : Type 0 where

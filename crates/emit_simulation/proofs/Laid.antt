@@ -14,7 +14,7 @@ use Rattle.thumb_layout.specs.Holds.{cost, Means}
 use Rattle.thumb_layout.proofs.Laws.{ComesSilently}
 use Rattle.thumb_code.specs.Arithmetic.{nz}
 use Rattle.placed_frames.specs.Places.{Store}
-use Rattle.placed_frames.specs.View.{View, with_low, registers_of, bank_of, Alters, At}
+use Rattle.placed_frames.proofs.Laws.{View, with_low, registers_of, bank_of, Alters, At}
 
 -- a fiber's memory: its bank, and the free words
 abbrev pub Fm : Type 0
