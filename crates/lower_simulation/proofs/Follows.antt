@@ -22,8 +22,8 @@ use Rattle.sts_meaning.specs.Services.{requested}
 use Rattle.sts_meaning.specs.Continuation.{Continuation, Put, Get, Store, Drop, Unary, Apply, Choose, Both, Either, Read, Peek, Write, At, PeekAt, SetAt, Bump, BumpField, BumpAt, Measure, Push, Pop, Open, Append, New, Build, Invoke, Send, Ask, Repeat, Again, Each, Leave, Give, Round, Impossible, runs}
 use Rattle.sts_meaning.specs.Frames.{Names, Frame, Activity, Starts, Runs, after, grown, taken, named, with_local, with_param, stored, defaults, first, answered, round}
 use Rattle.sts_meaning.specs.Steps as source
-use Rattle.sts_implements.specs.Forgotten.{forget, Agree}
-use Rattle.sts_implements.proofs.Laws.{after_matches, agree_then, agree_same, IsForgotten, ArePushed, ArePopped, object_agrees, read_field_agrees, write_field_agrees, read_item_agrees, write_item_agrees, pushed_agrees, popped_agrees, length_agrees, new_agrees, open_agrees, write_global_agrees}
+use Rattle.sts_implements.specs.Forgotten.{forget}
+use Rattle.sts_implements.proofs.Laws.{Agree, after_matches, agree_then, agree_same, IsForgotten, ArePushed, ArePopped, object_agrees, read_field_agrees, write_field_agrees, read_item_agrees, write_item_agrees, pushed_agrees, popped_agrees, length_agrees, new_agrees, open_agrees, write_global_agrees}
 use Rattle.flat_meaning.specs.Operators.{prefixed_by, answers, zeros}
 use Rattle.flat_meaning.specs.Frames.{FlatFrame, FlatActivity, Enters, Stands, words, result_of, depth_of}
 use Rattle.flat_meaning.specs.Steps as flat

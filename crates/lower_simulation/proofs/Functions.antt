@@ -12,7 +12,7 @@ use Rattle.sts_syntax.specs.TypeRules.{entry, IsOneOf}
 use Rattle.sts_meaning.specs.Values.{Value, Gives, Stuck, there}
 use Rattle.sts_meaning.specs.Frames.{defaults}
 use Rattle.sts_meaning.specs.Steps as source
-use Rattle.sts_implements.specs.Forgotten.{Agree}
+use Rattle.sts_implements.proofs.Laws.{Agree}
 use Rattle.flat_meaning.specs.Operators.{zeros, exactly}
 use Rattle.flat_meaning.specs.Frames.{op_of, words, words_of}
 use Rattle.sts_lower.specs.Code.{maker_of}

@@ -8,7 +8,7 @@ use Rattle.board_world.specs.Kinds.{Turn}
 use Rattle.sts_syntax.specs.TypeRules.{entry, IsOne}
 use Rattle.sts_meaning.specs.Values.{Value, Whole, Object, Text, Code, Outcome, Gives, Breaks, Stuck, then_gives, whole, to_int32, applied_before}
 use Rattle.sts_meaning.specs.Frames.{after}
-use Rattle.sts_implements.specs.Forgotten.{Agree}
+use Rattle.sts_implements.proofs.Laws.{Agree}
 use Rattle.flat_meaning.specs.Operators.{prefixed_by}
 use Rattle.sts_lower.specs.Code.{bump_op, unbump_op}
 

@@ -16,7 +16,8 @@ use Rattle.sts_meaning.specs.Heaps.{FlatHeap, Heap}
 use Rattle.sts_meaning.specs.Frames.{Activity, Starts, Runs, stuck, after, grown, text_of}
 use Rattle.sts_meaning.specs.Steps.{source}
 use Rattle.sts_meaning.specs.Steps as source
-use Rattle.sts_implements.specs.Forgotten.{forget, Agree}
+use Rattle.sts_implements.specs.Forgotten.{forget}
+use Rattle.sts_implements.proofs.Laws.{Agree}
 use Rattle.sts_implements.specs.Passes.{lowered as ties_of}
 use Rattle.flat_meaning.specs.Frames.{FlatFrame, FlatActivity, Enters, Stands, op_at, depth_of}
 use Rattle.flat_meaning.specs.Steps as flat

@@ -1,6 +1,6 @@
 -- Code has no number and names no text but those of its trees, and the numbers 0 to 3 and 20.
 use Rattle.std.proofs.Common.{ℕ, suc, ◌+◌, List, [], ◌∷◌, ◌++◌, length, Option, Some, None, Bool, true, false}
-use Rattle.std.specs.Prelude.{ℤ}
+use Rattle.std.specs.Prelude.{ℤ, pos}
 use Rattle.std.specs.List.{AllByRecursion}
 use Rattle.flat_ir.specs.declared.ops.Op.{Op}
 use Rattle.flat_ir.specs.declared.ops.Function.{Function}
@@ -21,7 +21,7 @@ use Rattle.sts_lower.specs.Code.{Part, handler_of, truth_number}
 use Rattle.sts_lower.specs.Statements as s
 use Rattle.sts_lower.specs.Statements.{behind, bare_code, return_code}
 use Rattle.sts_lower.specs.Lowered.{repeating_functions, repeated_in_program, repeating, lowered_routines, lowered}
-use Rattle.lowered_code.specs.Texts.{Has, AllHave, IsOwn}
+use Rattle.lowered_code.specs.Texts.{Has, AllHave}
 
 module _ (N : ℤ → Type 0) (T : ℕ → Type 0) where
   -- an expression that is a number or a text is such a one, and so is each of some
@@ -45,6 +45,14 @@ module _ (N : ℤ → Type 0) (T : ℕ → Type 0) where
   pub joined : (xs ys : List TypedTree) → AreIn xs → AreIn ys → AreIn (xs ++ ys)
   joined [] ys h g = g
   joined (x ∷ xs) ys h g = (h.0, joined xs ys h.1 g)
+
+-- what holds of the numbers that lowering brings of its own: truth values and null, the modes of `led`, a click, and the pause of `forever`
+pub record IsOwn (N : ℤ → Type 0) : Type 0 where
+  pub zero : N (pos 0)
+  pub one : N (pos 1)
+  pub two : N (pos 2)
+  pub three : N (pos 3)
+  pub twenty : N (pos 20)
 
 module _ (N : ℤ → Type 0) (T : ℕ → Type 0) (own : IsOwn N) where
   abbrev Good : List Op → Type 0

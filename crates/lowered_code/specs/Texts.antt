@@ -1,5 +1,5 @@
 -- What numbers and texts stand in flat code.
-use Rattle.std.specs.Prelude.{ℕ, ℤ, pos, List}
+use Rattle.std.specs.Prelude.{ℕ, ℤ, List}
 use Rattle.std.specs.List.{AllByRecursion}
 use Rattle.flat_ir.specs.declared.ops.Op.{Op}
 use Rattle.flat_ir.specs.declared.ops.Op.TheVariants.{Const, TextOf}
@@ -19,11 +19,3 @@ AllHave N T f = AllByRecursion (Has N T) f.ops
 -- the texts that a function's ops name are some of these
 abbrev pub NamesOnly : List ℕ → Function → Type 0
 NamesOnly texts = AllHave (λ value. Unit {0}) (λ text. IsOneOf text texts)
-
--- what holds of the numbers that lowering brings of its own: truth values and null, the modes of `led`, a click, and the pause of `forever`
-pub record IsOwn (N : ℤ → Type 0) : Type 0 where
-  pub zero : N (pos 0)
-  pub one : N (pos 1)
-  pub two : N (pos 2)
-  pub three : N (pos 3)
-  pub twenty : N (pos 20)

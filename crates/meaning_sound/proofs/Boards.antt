@@ -8,7 +8,8 @@ use Rattle.sts_syntax.specs.declared.board_calls.BoardCall.TheVariants as b
 use Rattle.sts_syntax.specs.Types as t
 use Rattle.sts_syntax.specs.Types.{ValueType}
 use Rattle.sts_syntax.specs.TypedTrees.{TypedProgram}
-use Rattle.sts_syntax.specs.BoardTable.{arranged, row_of}
+use Rattle.sts_syntax.specs.BoardTable as table
+use Rattle.sts_syntax.specs.BoardTable.{BoardParameter, arranged, row_of}
 use Rattle.sts_syntax.specs.TypeRules.{MayBegin}
 use Rattle.sts_syntax.specs.WellTyped.{Setting, IsAsked}
 use Rattle.sts_meaning.specs.Values.{Value, Whole, Object, Text, Code, Outcome, whole}
@@ -16,13 +17,23 @@ use Rattle.sts_meaning.specs.Heaps.{Heap}
 use Rattle.board_world.specs.Rules.{queues_if_busy}
 use Rattle.sts_meaning.specs.Services.{event, text, code, mode, with_none, with_one, with_two, with_three, with_four, of_one, of_two, of_listener, requested}
 use Rattle.sts_meaning.specs.Continuation.{Continuation, asks, gives_value}
-use Rattle.meaning_sound.specs.Sorts.{Sort, Of, Begins, Exactly, sorts_of, above, Well, Is, IsA, IsRequest, Asks}
+use Rattle.meaning_sound.specs.Sorts.{Sort, Of, Begins, Exactly, above, Well, Is, IsA, IsRequest, Asks}
 use Rattle.meaning_sound.specs.Fits.{Given, Answers, FitsValues}
 use Rattle.meaning_sound.proofs.Growth.{then_well}
 use Rattle.meaning_sound.proofs.Operations.{number_whole}
 
 abbrev Any : {X : Type 0} → X → Type 0
 Any x = Unit {0}
+
+-- what stands for an argument of the board, and for some
+abbrev pub sort_of : BoardParameter → Sort
+sort_of (table.Of u) = Of u
+sort_of table.Handler = Begins
+sort_of table.Drawing = Of t.Nothing
+
+abbrev pub sorts_of : List BoardParameter → List Sort
+sorts_of [] = []
+sorts_of (p ∷ ps) = sort_of p ∷ sorts_of ps
 
 module _ (P : TypedProgram) where
   -- an argument that is a number, also one that always stands there

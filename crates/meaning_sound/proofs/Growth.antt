@@ -9,9 +9,13 @@ use Rattle.sts_syntax.specs.WellTyped.{Setting}
 use Rattle.sts_meaning.specs.Values.{Value, Object, Outcome, Gives, Breaks, Stuck, then_gives, default, map_of}
 use Rattle.sts_meaning.specs.Heaps.{Cell, Fields, Items, Heap, with_cell}
 use Rattle.sts_meaning.specs.Frames.{Names, Frame, Activity, Starts, Runs, defaults, taken, before_these}
-use Rattle.meaning_sound.specs.Sorts.{Sort, Of, Begins, Exactly, of_types, above, OfClass, OfItems, shape, Well, Is, IsA, Suits}
-use Rattle.meaning_sound.specs.Kept.{Grows, IsCell, IsHeap, Holds, AreNamed, IsFrame, Wait, IsActivity}
+use Rattle.meaning_sound.specs.Sorts.{Sort, Of, Begins, Exactly, of_types, above, OfClass, OfItems, Shape, shape, Stands, Well, Is, IsA, Suits}
+use Rattle.meaning_sound.specs.Kept.{IsCell, IsHeap, Holds, AreNamed, IsFrame, Wait, IsActivity}
 use Rattle.meaning_sound.proofs.Lists.{some_same, paired_weak, every_weak, entry_cases}
+
+-- all that stood still stands
+abbrev pub Grows : Heap → Heap → Type 0
+Grows h h' = (n : ℕ) (s : Shape) → Stands h n s → Stands h' n s
 
 pub then_well : {X Y : Type 0} (Q : X → Type 0) (S : Y → Type 0) (o : Outcome X) (f : X → Outcome Y) → Well Q o → ((x : X) → Q x → Well S (f x)) → Well S (then_gives o f)
 then_well Q S (Gives x) f h k = k x h

@@ -14,11 +14,11 @@ use Rattle.sts_syntax.specs.WellTyped.{type_of, Setting, parameters_of, IsHandle
 use Rattle.sts_meaning.specs.Values.{Value, Whole, Text, default, truth}
 use Rattle.sts_meaning.specs.Heaps.{Heap}
 use Rattle.sts_meaning.specs.Continuation.{Continuation, Put, Get, Store, Drop, Unary, Apply, Choose, Both, Either, Read, Peek, Write, At, PeekAt, SetAt, Bump, BumpField, BumpAt, by_one, Measure, Push, Pop, Append, New, Build, Invoke, Send, Again, Each, Give, item_of, chained, arguments, appended, calls, evals, evals_each, initial, declares, tests, steps, bare, returns, runs, runs_first, runs_all}
-use Rattle.meaning_sound.specs.Sorts.{Sort, Of, Begins, Exactly, of_types, sorts_of, above, IsA}
+use Rattle.meaning_sound.specs.Sorts.{Sort, Of, Begins, Exactly, of_types, above, IsA}
+use Rattle.meaning_sound.proofs.Boards.{sorts_of, asks_fit}
 use Rattle.meaning_sound.specs.Fits.{Given, IsStored, FitsValues}
 use Rattle.meaning_sound.specs.Kept.{GivesThis}
 use Rattle.meaning_sound.proofs.Growth.{default_is, same_goes, same_suits, suits_trans, suits_is}
-use Rattle.meaning_sound.proofs.Boards.{asks_fit}
 
 sorts_parameters : (us : List ValueType) → sorts_of (parameters_of us) ≡ of_types us
 sorts_parameters [] = refl

@@ -29,9 +29,9 @@ use Rattle.sts_meaning.specs.Frames.{Names, Frame, Activity, Starts, Runs, stuck
 use Rattle.sts_meaning.specs.Steps.{repeating, words, entered, entered_round, method, entering, invoked, ended, begun, at, now, now_with, asker, takes_item, act, step, source, empty}
 use Rattle.meaning_sound.specs.Sorts.{Sort, Of, Begins, Exactly, of_types, above, Well, May, Is, IsA, IsRequest, Asks}
 use Rattle.meaning_sound.specs.Fits.{Answers, Given, IsStored, FitsValues}
-use Rattle.meaning_sound.specs.Kept.{Grows, IsHeap, Holds, AreNamed, GivesThis, IsFrame, Wait, IsActivity, typed}
+use Rattle.meaning_sound.specs.Kept.{IsHeap, Holds, AreNamed, GivesThis, IsFrame, Wait, IsActivity, typed}
+use Rattle.meaning_sound.proofs.Growth.{Grows, same_suits, default_is, goes_is, suits_is, is_on, holds_on, names_on, wait_on, activity_on, cell_on, Changed, cell_new, unchanged, defaults_are, then_well, AreTaken, taken_well, types_are, params_are}
 use Rattle.meaning_sound.proofs.Lists.{some_same, paired_changed, paired_entry, paired_weak, entry_cases, entry_here}
-use Rattle.meaning_sound.proofs.Growth.{same_suits, default_is, goes_is, suits_is, is_on, holds_on, names_on, wait_on, activity_on, cell_on, Changed, cell_new, unchanged, defaults_are, then_well, AreTaken, taken_well, types_are, params_are}
 use Rattle.meaning_sound.proofs.Operations.{AreBumped, bumped_well, applied_before_well, popped_well, applied_well, decided_well, read_field_well, write_field_well, IsFoundMethod, method_well, read_item_well, write_item_well, length_well, pushed_well, IsNext, next_item_well, named_well}
 use Rattle.meaning_sound.proofs.Trees.{runs_fit}
 use Rattle.meaning_sound.proofs.Functions.{entry_below, this_is, no_maker, body_fits}

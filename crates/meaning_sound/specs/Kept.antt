@@ -11,12 +11,8 @@ use Rattle.sts_syntax.specs.WellTypedPrograms.{is_maker}
 use Rattle.sts_meaning.specs.Values.{Value}
 use Rattle.sts_meaning.specs.Heaps.{Cell, Fields, Items, Heap}
 use Rattle.sts_meaning.specs.Frames.{Names, Frame, Activity, Starts, Runs}
-use Rattle.meaning_sound.specs.Sorts.{Sort, Of, Shape, Stands, May, Is, IsA, Suits}
+use Rattle.meaning_sound.specs.Sorts.{Sort, Of, May, Is, IsA, Suits}
 use Rattle.meaning_sound.specs.Fits.{FitsValues}
-
--- all that stood still stands
-abbrev pub Grows : Heap → Heap → Type 0
-Grows h h' = (n : ℕ) (s : Shape) → Stands h n s → Stands h' n s
 
 -- all of a list
 abbrev pub Every : (Value → Type 0) → List Value → Type 0

@@ -6,8 +6,6 @@ use Rattle.board_world.specs.Simulation.{Paired}
 use Rattle.sts_syntax.specs.Types as t
 use Rattle.sts_syntax.specs.Types.{ValueType}
 use Rattle.sts_syntax.specs.TypedTrees.{TypedProgram}
-use Rattle.sts_syntax.specs.BoardTable as b
-use Rattle.sts_syntax.specs.BoardTable.{BoardParameter}
 use Rattle.sts_syntax.specs.TypeRules.{IsBelow, GoesTo, MayBegin}
 use Rattle.sts_meaning.specs.Values.{Value, Whole, Object, Text, Code, default, Outcome, Gives, Breaks, Stuck}
 use Rattle.sts_meaning.specs.Heaps.{Cell, Fields, Items, Heap}
@@ -22,15 +20,6 @@ pub data Sort : Type 0 where
 abbrev pub of_types : List ValueType → List Sort
 of_types [] = []
 of_types (u ∷ us) = Of u ∷ of_types us
-
-abbrev pub sort_of : BoardParameter → Sort
-sort_of (b.Of u) = Of u
-sort_of b.Handler = Begins
-sort_of b.Drawing = Of t.Nothing
-
-abbrev pub sorts_of : List BoardParameter → List Sort
-sorts_of [] = []
-sorts_of (p ∷ ps) = sort_of p ∷ sorts_of ps
 
 -- arguments above what was pending before; the latest value stands first
 abbrev pub above : List Sort → List Sort → List Sort

@@ -13,7 +13,14 @@ use Rattle.sts_meaning.specs.Values.{Value, Whole, Object, Text, Code, default, 
 use Rattle.sts_meaning.specs.Heaps.{CellOf, Fields, Items, Cell, Heap, FlatHeap, RowOf, Row, with_cell, write_global, fields_of, object_at, items_of, array_at, number_of, put_fields, put_items, read_field, write_field, item_at, read_item, write_item, length_at, wider, pushed, last, shorter, popped, next_at, next_item}
 use Rattle.sts_meaning.specs.Frames.{after, defaults}
 use Rattle.sts_meaning.specs.Steps.{method}
-use Rattle.sts_implements.specs.Forgotten.{Nothing, forget_cell, forget_at, forget, Agree}
+use Rattle.sts_implements.specs.Forgotten.{Nothing, forget_cell, forget_at, forget}
+
+-- two outcomes agree: also where both are stuck
+abbrev pub Agree : {X Y : Type 0} → (X → Y → Type 0) → Outcome X → Outcome Y → Type 0
+Agree R (Gives x) (Gives y) = R x y
+Agree R (Breaks c) (Breaks d) = c ≡ d
+Agree R Stuck Stuck = Unit {0}
+Agree R o p = ⊥
 
 module _ {A S C D : Type 0} (K : Kind A S) (L : Kind C D) (T : Ties A S C D) where
   -- turns that go on from outcomes that agree match, also where they are stuck

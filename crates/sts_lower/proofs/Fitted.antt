@@ -14,7 +14,7 @@ use Rattle.sts_lower.proofs.Opened.{arranged_length}
 use Rattle.sts_lower.specs.Sizes.{ToName, sizes, initial_size, test_size, step_size, statement_size, first_size}
 use Rattle.sts_lower.specs.Code.{bump_code}
 use Rattle.sts_lower.specs.inner.Works.{Layout, Work, Put, puts, places_in, places_of, passed_by, opened_value, opened_reach, opened_arguments, opened_elements, opened_initial, opened_first, opened_test, opened_step, opened_statement, opened_statements, opened_declarations, opened, Value, Reach, Arguments, Elements, Expand, ExpandAll, ExpandDeclarations}
-use Rattle.sts_lower.specs.inner.Fitting.{IsLowerable, AreLowerable, IsLowerableIfAny, IsFirst, WorkFits, AllFit}
+use Rattle.sts_lower.specs.inner.Fitting.{IsLowerable, AreLowerable, IsLowerableIfAny, IsFirst, WorkFits}
 
 stacked_above : (d b : ℕ) (hs : List ℕ) → stacked (d + b) hs ≤ d + stacked b hs
 stacked_above d b [] = omega arith
@@ -116,6 +116,12 @@ super_call_holds params u f args is = omega (arith, many_held 1 (holds args) (ho
 
 pub make_holds : (u : ValueType) (k : ℕ) (args : TypedTrees) → suc (how_many args) ≤ hold (e.Make u k args)
 make_holds u k args = omega (arith, holds_many args)
+
+-- the numbers of each piece fit
+module _ (L : Layout) where
+  abbrev pub AllFit : List Work → Type 0
+  AllFit [] = Unit {0}
+  AllFit (w ∷ ws) = WorkFits L w × AllFit ws
 
 module _ (L : Layout) where
   pub puts_fit : (ops : List Op) → AllFit L (puts ops)

@@ -9,10 +9,10 @@ use Rattle.sts_syntax.specs.declared.typed.Callee.TheVariants as c
 use Rattle.sts_syntax.specs.BoardTable.{BoardAction, Service, Library, Repeats, ServicePlace, Written, Always, row_of, placed, arranged}
 use Rattle.sts_syntax.specs.Measures.{how_many, total}
 use Rattle.flat_ir.specs.declared.ops.Op.TheVariants.{Copy, Call, MakeObject, MakeArray}
-use Rattle.sts_lower.specs.Code.{span, maker_of, items_code, number_part, arguments, parts, Part, call_code, parts_code}
-use Rattle.sts_lower.specs.inner.Works.{Layout, Work, Put, puts, places_in, places_of, passed_by, ops_of, ops_of_all, opened_value, opened_reach, opened_arguments, opened_elements, opened_statement, opened_statements, opened_declarations, opened, own_ops, opened_initial, opened_first, opened_test, opened_step, Value, Reach, Arguments, Elements, Expand, ExpandAll, ExpandDeclarations}
+use Rattle.sts_lower.specs.Code.{span, maker_of, items_code, number_part, arguments, parts, Part, call_code, parts_code, code, reach_code}
+use Rattle.sts_lower.specs.inner.Works.{Layout, Work, Put, puts, places_in, places_of, passed_by, opened_value, opened_reach, opened_arguments, opened_elements, opened_statement, opened_statements, opened_declarations, opened, own_ops, opened_initial, opened_first, opened_test, opened_step, Value, Reach, Arguments, Elements, Expand, ExpandAll, ExpandDeclarations}
 use Rattle.sts_lower.specs.Code.{handler_of}
-use Rattle.sts_lower.specs.Statements.{bare_code, initial_code, first_code, test_code, step_code}
+use Rattle.sts_lower.specs.Statements.{bare_code, initial_code, first_code, test_code, step_code, declared_code, statement_code, statements_code}
 
 placed_length : {X : Type 0} (of : ℤ → X) (places : List ServicePlace) (xs : List X) → length (placed of places xs) ≡ total (placed (λ n. 1) places []) + length xs
 placed_length of [] xs = omega arith
@@ -29,6 +29,26 @@ arranged_is : {X : Type 0} (of : ℤ → X) (action : BoardAction) (xs : List X)
 arranged_is of (Service number places) xs = refl
 arranged_is of (Library function) xs = refl
 arranged_is of Repeats xs = refl
+
+module _ (L : Layout) where
+  -- the ops of a piece
+  abbrev pub ops_of : Work → List Op
+  ops_of (Put op) = op ∷ []
+  ops_of (Value a d at next) = code L.classes L.repeating L.params L.base a d at next
+  ops_of (Reach x d at) = reach_code L.classes L.repeating L.params L.base x d at
+  ops_of (Arguments places args d at) =
+      parts_code L.classes L.repeating L.params L.base (placed (number_part L.classes L.repeating L.params L.base)
+      places (parts L.classes L.repeating L.params L.base args)) d at
+  ops_of (Elements items d at) =
+      items_code L.classes L.repeating L.params L.base (parts L.classes L.repeating L.params L.base items) d at
+  ops_of (Expand a at next out again) = statement_code L.classes L.repeating L.params L.base L.maker a at next out again
+  ops_of (ExpandAll all at next out again) =
+      statements_code L.classes L.repeating L.params L.base L.maker all at next out again
+  ops_of (ExpandDeclarations each at) = declared_code L.classes L.repeating L.params L.base each at
+
+  abbrev pub ops_of_all : List Work → List Op
+  ops_of_all [] = []
+  ops_of_all (w ∷ ws) = ops_of w ++ ops_of_all ws
 
 module _ (L : Layout) where
   pub puts_are : (ops : List Op) → ops_of_all L (puts ops) ≡ ops

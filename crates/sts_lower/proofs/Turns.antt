@@ -1,10 +1,9 @@
 -- A turn of the work that is left.
 use Rattle.std.proofs.Common.{◌≡◌, ◌<◌, List, ◌∷◌, ◌++◌, sym, ap, ◌∙◌, subst, append_assoc, arith}
 use Rattle.flat_ir.specs.declared.ops.Op.{Op}
-use Rattle.sts_lower.specs.inner.Works.{Layout, Work, ops_of_all, opened, own_ops}
-use Rattle.sts_lower.specs.inner.Fitting.{AllFit}
-use Rattle.sts_lower.proofs.Opened.{joined_are, opened_is}
-use Rattle.sts_lower.proofs.Fitted.{joined_fit, opened_fits}
+use Rattle.sts_lower.specs.inner.Works.{Layout, Work, opened, own_ops}
+use Rattle.sts_lower.proofs.Opened.{ops_of_all, joined_are, opened_is}
+use Rattle.sts_lower.proofs.Fitted.{AllFit, joined_fit, opened_fits}
 use Rattle.sts_lower.proofs.Loads.{load, load_joined, opened_less}
 
 pub turn_ops : (L : Layout) (w : Work) (rest new : List Work) (ops more : List Op) → more ≡ ops ++ own_ops L w → new ≡ opened L w ++ rest

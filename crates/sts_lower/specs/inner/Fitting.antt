@@ -111,10 +111,6 @@ module _ (L : Layout) where
   WorkFits (ExpandDeclarations each at) =
       (at + declared_size each < 2 ^ 32) × (L.base + 1 + greatest_first hold each < 2 ^ 32) × AreDeclared L.params each
 
-  abbrev pub AllFit : List Work → Type 0
-  AllFit [] = Unit {0}
-  AllFit (w ∷ ws) = WorkFits w × AllFit ws
-
 -- a function whose numbers fit
 pub record IsLowerableRoutine (r : TypedRoutine) : Type 0 where
   pub params : length r.params ≤ 8

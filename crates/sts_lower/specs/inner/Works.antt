@@ -1,4 +1,4 @@
--- What is left to lower in a function, piece by piece: the ops that a piece stands for, and the pieces that it is opened into.
+-- What is left to lower in a function, piece by piece: the pieces that a piece is opened into, and the ops that it has by itself.
 use Rattle.std.specs.Prelude.{ℤ, ℕ, suc, ◌+◌, pos, Bool, List, [], ◌∷◌, ◌++◌, length, Option, Some, None}
 use Rattle.board_services.specs.declared.numbers.TheConstants.{PUSH}
 use Rattle.flat_ir.specs.declared.ops.Op.{Op}
@@ -8,13 +8,13 @@ use Rattle.sts_syntax.specs.declared.typed.Callee.{Callee}
 use Rattle.sts_syntax.specs.declared.typed.Callee.TheVariants as c
 use Rattle.sts_syntax.specs.TypedTrees as e
 use Rattle.sts_syntax.specs.TypedTrees.{TypedTree, TypedTrees, TypedStatement, TypedStatements, OptionalTypedStatement, TypedDeclaration, TypedRoutine, ClassEntry}
-use Rattle.sts_syntax.specs.BoardTable.{BoardAction, Service, ServicePlace, Written, Always, row_of, placed}
+use Rattle.sts_syntax.specs.BoardTable.{BoardAction, Service, ServicePlace, Written, Always, row_of}
 use Rattle.sts_syntax.specs.Measures.{how_many, total, argument_sizes, pending_words, outgoing_words}
 use Rattle.sts_syntax.specs.WellTypedPrograms.{is_maker}
 use Rattle.flat_ir.specs.declared.ops.Function.{Function}
 use Rattle.sts_lower.specs.Sizes.{Target, target, size, reach_size, initial_size, test_size, item_size, statement_size, first_size, statements_size}
-use Rattle.sts_lower.specs.Code.{span, get_op, set_op, truth_number, maker_of, handler_of, number_part, parts_code, action_code, call_code, stored_at, read_code, store_code, bump_global, bump_code, items_code, code, parts, reach_code}
-use Rattle.sts_lower.specs.Statements.{behind, bare_code, return_code, declared_code, item_code, statement_code, statements_code}
+use Rattle.sts_lower.specs.Code.{span, get_op, set_op, truth_number, maker_of, handler_of, action_code, call_code, stored_at, read_code, store_code, bump_global, bump_code}
+use Rattle.sts_lower.specs.Statements.{behind, bare_code, return_code, item_code, statements_code}
 
 -- Of a program: its classes, and the number of the function that repeats the calls of another one. Of a function: how many parameters it
 -- has, the temporary at which its operands begin, and whether it is a constructor.
@@ -80,25 +80,6 @@ module _ (L : Layout) where
 
   abbrev pub takes_item : (i at next : ℕ) → List Op
   takes_item i at next = item_code L.classes L.repeating L.params L.base i at next
-
-  -- the ops of a piece
-  abbrev pub ops_of : Work → List Op
-  ops_of (Put op) = op ∷ []
-  ops_of (Value a d at next) = code L.classes L.repeating L.params L.base a d at next
-  ops_of (Reach x d at) = reach_code L.classes L.repeating L.params L.base x d at
-  ops_of (Arguments places args d at) =
-      parts_code L.classes L.repeating L.params L.base (placed (number_part L.classes L.repeating L.params L.base)
-      places (parts L.classes L.repeating L.params L.base args)) d at
-  ops_of (Elements items d at) =
-      items_code L.classes L.repeating L.params L.base (parts L.classes L.repeating L.params L.base items) d at
-  ops_of (Expand a at next out again) = statement_code L.classes L.repeating L.params L.base L.maker a at next out again
-  ops_of (ExpandAll all at next out again) =
-      statements_code L.classes L.repeating L.params L.base L.maker all at next out again
-  ops_of (ExpandDeclarations each at) = declared_code L.classes L.repeating L.params L.base each at
-
-  abbrev pub ops_of_all : List Work → List Op
-  ops_of_all [] = []
-  ops_of_all (w ∷ ws) = ops_of w ++ ops_of_all ws
 
   -- an expression whose ops go on behind them, and two of them one after the other
   abbrev pub valued : TypedTree → (d at : ℕ) → Work

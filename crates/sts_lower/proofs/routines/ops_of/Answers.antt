@@ -1,7 +1,7 @@
 use Rattle.std.proofs.Common.{◌<◌, ◌++◌, List, sym, ap, subst, ◌∙◌}
 use Rattle.sts_lower.specs.declared.work.Work.{Work as Piece}
-use Rattle.sts_lower.specs.inner.Works.{ops_of_all}
-use Rattle.sts_lower.specs.inner.Fitting.{AllFit}
+use Rattle.sts_lower.proofs.Opened.{ops_of_all}
+use Rattle.sts_lower.proofs.Fitted.{AllFit}
 use Rattle.sts_lower.specs.inner.Shown.{layout, works, work_shown}
 use Rattle.sts_lower.proofs.Loads.{load}
 use Rattle.sts_lower.proofs.Turns.{turn_ops, turn_fits, turn_less}

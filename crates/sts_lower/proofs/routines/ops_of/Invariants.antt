@@ -1,8 +1,9 @@
 use Rattle.std.proofs.Common.{◌≡◌, ◌++◌}
 use Rattle.sts_syntax.specs.TypedViews.{typed_statements}
 use Rattle.sts_lower.specs.Statements as t
-use Rattle.sts_lower.specs.inner.Works.{ExpandAll, ops_of, ops_of_all}
-use Rattle.sts_lower.specs.inner.Fitting.{AllFit}
+use Rattle.sts_lower.specs.inner.Works.{ExpandAll}
+use Rattle.sts_lower.proofs.Opened.{ops_of, ops_of_all}
+use Rattle.sts_lower.proofs.Fitted.{AllFit}
 use Rattle.sts_lower.specs.inner.Shown.{works, layout}
 use Rattle.sts_lower.proofs.Loads.{load}
 use Rattle.sts_lower.proofs.routines.ops_of.Given as goal
