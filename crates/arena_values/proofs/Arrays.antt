@@ -3,7 +3,7 @@ use Rattle.std.proofs.Common.{◌≡◌, ◌≢◌, ℕ, ◌+◌, ◌<◌, ◌�
 use Rattle.std.proofs.lemmas.List.{length-set}
 use Rattle.thumb_code.specs.Map.{arena_words}
 use Rattle.bank_model.specs.Arrays.{behind_words}
-use Rattle.sts_meaning.specs.Values.{Value, changed}
+use Rattle.sts_meaning.specs.Values.{Value}
 use Rattle.sts_meaning.specs.Heaps.{Items, HeapOf, with_cell}
 use Rattle.arena_values.proofs.Update.{Same, stand_same}
 use Rattle.arena_values.proofs.Update.{updated}
@@ -13,12 +13,12 @@ use Rattle.arena_values.proofs.Objects.{Shown, set_changes, taken, taken_old, ow
 module _ (Is : Value → ℕ → Type 0) (class_word : ℕ → ℕ) {N : Type 0} where
   -- an item is written
   pub sets_item : (heap : HeapOf N) (used m : ℕ) (item : N) (room i w : ℕ) (arena : List ℕ) (items : List Value) (v : Value) → (g : heap.cells m ≡ Some (Items item room items)) → i < length items → Is v w
-      → (h : Shown Is class_word heap used arena) → Shown Is class_word (with_cell m (Items item room (changed items i v)) heap) used (slice_set arena ((h.each m (Items item room items) g).at + i) w)
+      → (h : Shown Is class_word heap used arena) → Shown Is class_word (with_cell m (Items item room (slice_set items i v)) heap) used (slice_set arena ((h.each m (Items item room items) g).at + i) w)
   sets_item heap used m item room i w arena items v g l e h =
       let x = h.each m (Items item room items) g in
       let o = x.owned_room in let a = o.within in let u = h.within in let z = h.size in let f = x.fits in let b = x.behind in
       let n = changed_length items i v in
-      updated Is class_word heap used used m arena (slice_set arena (x.at + i) w) (Items item room (changed items i v)) h h.owner u (length-set arena (x.at + i) w ∙ z)
+      updated Is class_word heap used used m arena (slice_set arena (x.at + i) w) (Items item room (slice_set items i v)) h h.owner u (length-set arena (x.at + i) w ∙ z)
       (set_changes h.owner used m (x.at + i) w arena (o.mine i (omega arith)) (omega arith))
       (record {
         at = x.at;

@@ -2,7 +2,7 @@
 use Rattle.std.proofs.Common.{◌≡◌, ℕ, ◌+◌, ◌<◌, ◌≤◌, List, length, true, false, cond, nat_lt, Some, refl, ap, ◌∙◌, arith, slice_set, slice_index, get_or-set_other}
 use Rattle.std.proofs.lemmas.List.{length-set}
 use Rattle.thumb_code.specs.Map.{arena_words}
-use Rattle.sts_meaning.specs.Values.{Value, changed}
+use Rattle.sts_meaning.specs.Values.{Value}
 use Rattle.sts_meaning.specs.Heaps.{Fields, HeapOf, with_cell}
 use Rattle.arena_values.specs.Lies.{Owned, Lies}
 use Rattle.arena_values.proofs.Update.{Same, Changes, updated}
@@ -35,13 +35,13 @@ module _ (Is : Value → ℕ → Type 0) (class_word : ℕ → ℕ) {N : Type 0}
 
   -- a field is written
   pub sets_field : (heap : HeapOf N) (used m class i w : ℕ) (arena : List ℕ) (fields : List Value) (v : Value) → heap.cells m ≡ Some (Fields class fields) → i < length fields → Is v w
-      → Shown heap used arena → Shown (with_cell m (Fields class (changed fields i v)) heap) used (slice_set arena (m + 1 + i) w)
+      → Shown heap used arena → Shown (with_cell m (Fields class (slice_set fields i v)) heap) used (slice_set arena (m + 1 + i) w)
   sets_field heap used m class i w arena fields v g l e h =
       let x = h.each m (Fields class fields) g in
       let o = x.owned in let a = o.within in let u = h.within in let z = h.size in
       let n = changed_length fields i v in
       let j : h.owner (m + 1 + i) ≡ m = ap h.owner (omega arith) ∙ o.mine (1 + i) (omega arith) in
-      updated Is class_word heap used used m arena (slice_set arena (m + 1 + i) w) (Fields class (changed fields i v)) h h.owner u (length-set arena (m + 1 + i) w ∙ z)
+      updated Is class_word heap used used m arena (slice_set arena (m + 1 + i) w) (Fields class (slice_set fields i v)) h h.owner u (length-set arena (m + 1 + i) w ∙ z)
       (set_changes h.owner used m (m + 1 + i) w arena j (omega arith))
       (record {
         owned = record { within = omega arith; mine = λ k q. o.mine k (omega arith) };

@@ -4,7 +4,7 @@ use Rattle.std.specs.Prelude.{pos, negsuc}
 use Rattle.std.proofs.lemmas.List.{length-set}
 use Rattle.bank_model.specs.Arrays.{behind_words}
 use Rattle.sts_syntax.specs.TypeRules.{entry}
-use Rattle.sts_meaning.specs.Values.{Value, Whole, Object, Text, Code, Gives, then_gives, there, changed}
+use Rattle.sts_meaning.specs.Values.{Value, Whole, Object, Text, Code, Gives, then_gives, there}
 use Rattle.sts_meaning.specs.Heaps.{CellOf, Fields, Items, HeapOf, with_cell, write_global, fields_of, object_at, items_of, put_fields, put_items, read_field, write_field, found, item_at, read_item, write_item, length_at, last, shorter, popped}
 use Rattle.arena_values.specs.Words.{Is}
 use Rattle.arena_values.specs.Lies.{Stand, Lies, Shows}
@@ -83,7 +83,7 @@ module _ (IsText IsCode : ℕ → ℕ → Type 0) (class_word : ℕ → ℕ) whe
     changes_field (Object n) w f v i = by (h.cells n) refl
       where
         one : (class : ℕ) (fields : List Value) (e : Option Value) → h.cells n ≡ Some (Fields class fields) → entry fields f ≡ e
-            → ChangesField Means class_word arena used globals w f v (then_gives (there e) (λ old. Gives (put_fields (Object n) class (changed fields f v) h)))
+            → ChangesField Means class_word arena used globals w f v (then_gives (there e) (λ old. Gives (put_fields (Object n) class (slice_set fields f v) h)))
         one class fields None q e = tt
         one class fields (Some old) q e =
             let l = s.lies in
@@ -92,7 +92,7 @@ module _ (IsText IsCode : ℕ → ℕ → Type 0) (class_word : ℕ → ℕ) whe
             record { object = n; at = i.0; within = omega arith; stores = λ y m. shown_with _ _ refl (sets_field Means class_word h used n class f y arena fields v q b m l) }
 
         by : (c : Option (CellOf N)) → h.cells n ≡ c
-            → ChangesField Means class_word arena used globals w f v (then_gives (fields_of c) (λ c. then_gives (there (entry c.1 f)) (λ old. Gives (put_fields (Object n) c.0 (changed c.1 f v) h))))
+            → ChangesField Means class_word arena used globals w f v (then_gives (fields_of c) (λ c. then_gives (there (entry c.1 f)) (λ old. Gives (put_fields (Object n) c.0 (slice_set c.1 f v) h))))
         by None q = tt
         by (Some (Items item room items)) q = tt
         by (Some (Fields class fields)) q = one class fields (entry fields f) q refl
@@ -145,13 +145,13 @@ module _ (IsText IsCode : ℕ → ℕ → Type 0) (class_word : ℕ → ℕ) whe
     changes_item (Object n) i w x v m j = by (h.cells n) refl
       where
         put : (item : N) (room : ℕ) (items : List Value) → ℕ → HeapOf N
-        put item room items k = put_items (Object n) (record { item = item; room = room; items = items }) (changed items k v) h
+        put item room items k = put_items (Object n) (record { item = item; room = room; items = items }) (slice_set items k v) h
 
         past : (item : N) (room : ℕ) (items : List Value) → (g : h.cells n ≡ Some (Items item room items)) → length items ≤ x → PastItems arena w x 104
         past item room items g l = record { count = length items; first = _; header = header_of n item room items w g m.0; past = l; code_is = refl }
 
         one : (item : N) (room : ℕ) (items : List Value) (k : ℕ) (e : Option Value) → h.cells n ≡ Some (Items item room items) → x ≡ k → entry items k ≡ e
-            → ChangesItem Means class_word arena used globals w x v (then_gives (found k e) (λ y. Gives (put_items (Object n) (record { item = item; room = room; items = items }) (changed items y.0 v) h)))
+            → ChangesItem Means class_word arena used globals w x v (then_gives (found k e) (λ y. Gives (put_items (Object n) (record { item = item; room = room; items = items }) (slice_set items y.0 v) h)))
         one item room items k None g q e = inr (past item room items g (let b = entry_none items k e in omega arith))
         one item room items k (Some old) g q e =
             let y = (s.lies).each n (Items item room items) g in
@@ -161,11 +161,11 @@ module _ (IsText IsCode : ℕ → ℕ → Type 0) (class_word : ℕ → ℕ) whe
               first = y.at;
               header = header_of n item room items w g m.0;
               below = omega arith;
-              stores = λ z p. shown_with _ _ refl (subst (λ j. Lies Means class_word (with_cell n (Items item room (changed items k v)) h) used (slice_set arena (y.at + j) z)) (sym q) (sets_item Means class_word h used n item room k z arena items v g b p s.lies));
+              stores = λ z p. shown_with _ _ refl (subst (λ j. Lies Means class_word (with_cell n (Items item room (slice_set items k v)) h) used (slice_set arena (y.at + j) z)) (sym q) (sets_item Means class_word h used n item room k z arena items v g b p s.lies));
             }
 
         at : (item : N) (room : ℕ) (items : List Value) (i : Value) → Means i x → h.cells n ≡ Some (Items item room items)
-            → ChangesItem Means class_word arena used globals w x v (then_gives (item_at items i) (λ y. Gives (put_items (Object n) (record { item = item; room = room; items = items }) (changed items y.0 v) h)))
+            → ChangesItem Means class_word arena used globals w x v (then_gives (item_at items i) (λ y. Gives (put_items (Object n) (record { item = item; room = room; items = items }) (slice_set items y.0 v) h)))
         at item room items (Whole (pos k)) j g = one item room items k (entry items k) g (index_is x k j.0 j.1) refl
         at item room items (Whole (negsuc k)) j g =
             inr (past item room items g (let b = negative_is x k j.0 j.1 in let f = (header_of n item room items w g m.0).few in omega arith))
@@ -174,7 +174,7 @@ module _ (IsText IsCode : ℕ → ℕ → Type 0) (class_word : ℕ → ℕ) whe
         at item room items (Code k) j g = tt
 
         by : (c : Option (CellOf N)) → h.cells n ≡ c
-            → ChangesItem Means class_word arena used globals w x v (then_gives (items_of c) (λ r. then_gives (item_at r.items i) (λ y. Gives (put_items (Object n) r (changed r.items y.0 v) h))))
+            → ChangesItem Means class_word arena used globals w x v (then_gives (items_of c) (λ r. then_gives (item_at r.items i) (λ y. Gives (put_items (Object n) r (slice_set r.items y.0 v) h))))
         by None q = tt
         by (Some (Fields class fields)) q = tt
         by (Some (Items item room items)) q = at item room items i j q
@@ -243,17 +243,17 @@ module _ (IsText IsCode : ℕ → ℕ → Type 0) (class_word : ℕ → ℕ) whe
     pub changes_global : (g : ℕ) (v : Value) (h' : HeapOf N) → write_global h g v ≡ Gives h' → (g < 256) × ((x : ℕ) → Means v x → Shows Means class_word h' used (slice_set globals g x) arena)
     changes_global g v h' e = by (entry h.globals g) refl e
       where
-        by : (o : Option Value) → entry h.globals g ≡ o → then_gives (there o) (λ old. Gives (record h { globals = changed h.globals g v })) ≡ Gives h'
+        by : (o : Option Value) → entry h.globals g ≡ o → then_gives (there o) (λ old. Gives (record h { globals = slice_set h.globals g v })) ≡ Gives h'
             → (g < 256) × ((x : ℕ) → Means v x → Shows Means class_word h' used (slice_set globals g x) arena)
         by None q e = cc
         by (Some old) q e =
             let b = entry_below h.globals g old q in let f = s.fits in let z = s.size in let n = changed_length h.globals g v in
-            let same : record h { globals = changed h.globals g v } ≡ h' = (cc) in (
+            let same : record h { globals = slice_set h.globals g v } ≡ h' = (cc) in (
               omega arith,
               λ x m. subst (λ (k : HeapOf N). Shows Means class_word k used (slice_set globals g x) arena) same (record {
                 size = length-set globals g x ∙ z;
                 fits = omega arith;
-                values = subst (λ j. Stand Means class_word (changed h.globals g v) (slice_set globals j x) 0) (omega arith) (stand_set Means class_word h.globals globals 0 g v x b (omega arith) m s.values);
+                values = subst (λ j. Stand Means class_word (slice_set h.globals g v) (slice_set globals j x) 0) (omega arith) (stand_set Means class_word h.globals globals 0 g v x b (omega arith) m s.values);
                 lies = (let l = s.lies in record { owner = l.owner; within = l.within; size = l.size; each = l.each; rest = l.rest });
               }),
             )

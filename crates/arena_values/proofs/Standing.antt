@@ -1,7 +1,7 @@
 -- Values that stand one behind the other: one of them, one changed, one more, one less.
 use Rattle.std.proofs.Common.{zero, suc, ◌≡◌, ℕ, ◌+◌, ◌<◌, List, [], ◌∷◌, ◌++◌, length, Option, Some, None, refl, sym, ap, ◌∙◌, subst, arith, slice_set, slice_index, get_or-set_same, get_or-set_other}
 use Rattle.sts_syntax.specs.TypeRules.{entry}
-use Rattle.sts_meaning.specs.Values.{Value, changed}
+use Rattle.sts_meaning.specs.Values.{Value}
 use Rattle.sts_meaning.specs.Heaps.{last, behind}
 use Rattle.arena_values.specs.Lies.{Stand}
 use Rattle.arena_values.proofs.Update.{stand_same}
@@ -16,7 +16,7 @@ entry_none [] i e = omega arith
 entry_none (y ∷ ys) zero e = cc
 entry_none (y ∷ ys) (suc i) e = let l = entry_none ys i e in omega arith
 
-pub changed_length : {X : Type 0} (xs : List X) (i : ℕ) (y : X) → length (changed xs i y) ≡ length xs
+pub changed_length : {X : Type 0} (xs : List X) (i : ℕ) (y : X) → length (slice_set xs i y) ≡ length xs
 changed_length [] i y = refl
 changed_length (x ∷ xs) zero y = refl
 changed_length (x ∷ xs) (suc i) y = ap suc (changed_length xs i y)
@@ -55,7 +55,7 @@ module _ (Is : Value → ℕ → Type 0) (class_word : ℕ → ℕ) where
   stand_at (u ∷ vs) words k zero v e s = subst (λ (x : Value). Is x (slice_index words (k + 0))) (let q : u ≡ v = (cc) in q) (subst (λ j. Is u (slice_index words j)) (omega arith) s.0)
   stand_at (u ∷ vs) words k (suc i) v e s = subst (λ j. Is v (slice_index words j)) (omega arith) (stand_at vs words (k + 1) i v e s.1)
 
-  pub stand_set : (vs : List Value) (words : List ℕ) (k i : ℕ) (v : Value) (w : ℕ) → i < length vs → k + i < length words → Is v w → Stands vs words k → Stands (changed vs i v) (slice_set words (k + i) w) k
+  pub stand_set : (vs : List Value) (words : List ℕ) (k i : ℕ) (v : Value) (w : ℕ) → i < length vs → k + i < length words → Is v w → Stands vs words k → Stands (slice_set vs i v) (slice_set words (k + i) w) k
   stand_set [] words k i v w l m e s = tt
   stand_set (u ∷ vs) words k zero v w l m e s =
       let z : k + 0 ≡ k = omega arith in (
@@ -65,7 +65,7 @@ module _ (Is : Value → ℕ → Type 0) (class_word : ℕ → ℕ) where
   stand_set (u ∷ vs) words k (suc i) v w l m e s =
       let z : k + suc i ≡ k + 1 + i = omega arith in (
         subst (Is u) (sym (get_or-set_other words (k + suc i) k w 0 (omega arith))) s.0,
-        subst (λ j. Stands (changed vs i v) (slice_set words j w) (k + 1)) (sym z) (stand_set vs words (k + 1) i v w (omega arith) (omega arith) e s.1),
+        subst (λ j. Stands (slice_set vs i v) (slice_set words j w) (k + 1)) (sym z) (stand_set vs words (k + 1) i v w (omega arith) (omega arith) e s.1),
       )
 
   pub stand_more : (vs : List Value) (words : List ℕ) (k : ℕ) (v : Value) → Stands vs words k → Is v (slice_index words (k + length vs)) → Stands (vs ++ v ∷ []) words k

@@ -1,6 +1,6 @@
 -- Each service: what flat code asks is what the machine asks.
 use Rattle.std.proofs.Common.{zero, suc, ◌≡◌, ◌≢◌, ℕ, ◌+◌, ◌-◌, ◌*◌, ◌%◌, ◌<◌, ◌≤◌, ◌^◌, List, [], ◌∷◌, length, map, Some, Bool, true, false, nat_lt, nat_le, ◌==◌, ◌&&◌, if◌then◌else◌, ⊎_elim, refl, sym, ap, ◌∙◌, arith, slice_get, slice_index}
-use Rattle.std.specs.Prelude.{ℤ, pos, negsuc}
+use Rattle.std.specs.Prelude.{ℤ, pos, negsuc, get_or}
 use Rattle.std.specs.Int.{cast_signed, w32}
 use Rattle.thumb_code.specs.RegisterFile.{is_odd}
 use Rattle.board_world.specs.declared.requests.Request.{Request}
@@ -29,7 +29,7 @@ use Rattle.register_assign.specs.Sound.{place_of}
 use Rattle.sts_syntax.specs.TypeRules.{entry}
 use Rattle.sts_meaning.specs.Values.{Value, Whole, Object, Text, Code, default, Outcome, Gives, then_gives, whole}
 use Rattle.sts_meaning.specs.Services.{requested, text, code, mode, event, listener, with_none, with_one, with_two, with_three, with_four, of_one, of_two, of_event, of_listener}
-use Rattle.sts_meaning.specs.Frames.{after, text_of}
+use Rattle.sts_meaning.specs.Frames.{after}
 use Rattle.sts_meaning.specs.Heaps.{FlatHeap}
 use Rattle.flat_meaning.specs.Frames.{FlatFrame, Enters, depth_of}
 use Rattle.flat_meaning.specs.Steps.{FlatTurn, flat_asker}
@@ -52,7 +52,7 @@ code_is w l = ⊎_elim (λ s. ap (low_bits 8) (signed_low w s)) (λ s. ap (low_b
 not_zero : (w : ℕ) → w ≢ 0 → (w == 0) ≡ false
 not_zero w n = grind arith
 
-text_there : (texts : List ByteList) (i : ℕ) (bytes : ByteList) → slice_get texts i ≡ Some bytes → text_of texts i ≡ bytes
+text_there : (texts : List ByteList) (i : ℕ) (bytes : ByteList) → slice_get texts i ≡ Some bytes → get_or texts i [] ≡ bytes
 text_there [] i bytes e = cc
 text_there (b ∷ rest) zero bytes e = cc
 text_there (b ∷ rest) (suc i) bytes e = text_there rest i bytes e
@@ -429,7 +429,7 @@ module _ (C : FlatCode) (placed : List Placed) (flash : List ℕ) (a : Addresses
 
   -- a text that is there
   abbrev IsThere : ℕ → ℕ → Type 0
-  IsThere i w = (w ≢ 0) × (is_text flash w ≡ true) × (text_of texts i ≡ text_at flash w)
+  IsThere i w = (w ≢ 0) × (is_text flash w ≡ true) × (get_or texts i [] ≡ text_at flash w)
 
   its_text : (i w : ℕ) → IsText C placed flash a i w → IsThere i w
   its_text i w k =
@@ -448,7 +448,7 @@ module _ (C : FlatCode) (placed : List Placed) (flash : List ℕ) (a : Addresses
       (λ y m. text_arg C placed flash a texts image to 13 args p f callers base c used h t e x sh quietly y _ m (λ i. Gives (ask.WriteText i))
       (λ i k nf. (let s = its_text i _ k in let z : (arg C placed flash a texts image to 13 args p f callers base c used h t e x sh 0 == 0) ≡
       false = not_zero _ s.0 in let here = s.1 in
-      tells_board C placed flash a texts image to 13 args p f callers base c used h t e x sh refl (Writes (text_of texts i))
+      tells_board C placed flash a texts image to 13 args p f callers base c used h t e x sh refl (Writes (get_or texts i []))
       (Writes (text_at flash (arg C placed flash a texts image to 13 args p f callers base c used h t e x sh 0))) (ap Writes s.2)
       (λ at. rw z (rw here refl))))
       (λ null. record { below = λ at. Panics 105; completes = λ at. rw null refl; matches = λ at. refl })) values
@@ -466,10 +466,10 @@ module _ (C : FlatCode) (placed : List Placed) (flash : List ℕ) (a : Addresses
       let z : (arg C placed flash a texts image to 16 args p f callers base c used h t e x sh 0 == 0) ≡ false = not_zero _ s.0 in
       let here = s.1 in
       let bytes = text_at flash (arg C placed flash a texts image to 16 args p f callers base c used h t e x sh 0) in
-      let same : world.glyph_at glyph_of (text_of texts i) j ≡ bank.glyph_at bytes (arg C placed flash a texts image to 16 args p f callers base c used h t e x
+      let same : world.glyph_at glyph_of (get_or texts i []) j ≡ bank.glyph_at bytes (arg C placed flash a texts image to 16 args p f callers base c used h t e x
       sh 1) = ap (λ b. world.glyph_at glyph_of b j) s.2 ∙ glyph_is bytes j (arg C placed flash a texts image to 16 args p f callers base c used h t e x sh
       1) q l (text_short flash (arg C placed flash a texts image to 16 args p f callers base c used h t e x sh 0) s.1) in
-      reckons C placed flash a texts image to 16 args p f callers base c used h t e x sh refl (world.glyph_at glyph_of (text_of texts i) j)
+      reckons C placed flash a texts image to 16 args p f callers base c used h t e x sh refl (world.glyph_at glyph_of (get_or texts i []) j)
       (λ at. rw z (rw here (ap (λ n. Goes (answered_word (asking_fiber C placed flash a texts image to 16 args p f callers base c used h t e x sh) n)
       (asking_shared C placed flash a texts image to 16 args p f callers base c used h t e x sh))
       (fitting_word (bank.glyph_at bytes (arg C placed flash a texts image to 16 args p f callers base c used h t e x sh 1))

@@ -1,5 +1,6 @@
 -- A function begins: its frame goes above those that wait, or it is a panic.
 use Rattle.std.proofs.Common.{zero, suc, ◌≡◌, ℕ, ◌+◌, ◌*◌, ◌-◌, ◌<◌, ◌≤◌, ◌^◌, List, [], ◌∷◌, length, Bool, true, false, cond, nat_lt, Option, Some, None, refl, sym, ap, ◌∙◌, subst, arith, slice_get, slice_set, slice_index, get_or-set_same}
+use Rattle.std.specs.Prelude.{get_or}
 use Rattle.std.proofs.lemmas.List.{length-set}
 use Rattle.thumb_code.specs.declared.register_file.Registers.{Registers}
 use Rattle.thumb_code.specs.Step.{fetched}
@@ -17,7 +18,7 @@ use Rattle.flat_ir.specs.declared.ops.FlatCode.{FlatCode}
 use Rattle.register_assign.specs.declared.places.Placed.{Placed}
 use Rattle.register_assign.specs.Sound.{place_of}
 use Rattle.sts_syntax.specs.TypeRules.{entry}
-use Rattle.sts_meaning.specs.Values.{Value, Outcome, Gives, Breaks, Stuck, there, map_of}
+use Rattle.sts_meaning.specs.Values.{Value, Outcome, Gives, Breaks, Stuck, there, default}
 use Rattle.sts_meaning.specs.Frames.{after}
 use Rattle.sts_meaning.specs.Heaps.{FlatHeap}
 use Rattle.flat_meaning.specs.Operators.{exactly}
@@ -57,7 +58,7 @@ exactly_breaks zero (v ∷ vs) code e = cc
 exactly_breaks (suc n) [] code e = cc
 exactly_breaks (suc n) (v ∷ vs) code e = exactly_breaks n vs code e
 
-pub argument_at : (vs : List Value) (j : ℕ) → j < length vs → slice_get vs j ≡ Some (map_of vs j)
+pub argument_at : (vs : List Value) (j : ℕ) → j < length vs → slice_get vs j ≡ Some (get_or vs j default)
 argument_at [] j l = absurd (omega arith)
 argument_at (v ∷ vs) zero l = refl
 argument_at (v ∷ vs) (suc j) l = argument_at vs j (omega arith)
@@ -168,10 +169,10 @@ module _ (C : FlatCode) (placed : List Placed) (flash : List ℕ) (a : Addresses
         let p8 = (r.0).formed.params in
         let rm = x.room in
         let y = enters fetch flash pl (function_pieces pg) laid fn place (entry_stands pg) (Means C placed flash a) C.functions (place_in C placed flash a)
-        (return_to C placed flash a) pg.places refl (map_of args) (frames_of callers) x.v x.s bank x.free (r.0).sound at refl x.low
+        (return_to C placed flash a) pg.places refl (λ i. get_or args i default) (frames_of callers) x.v x.s bank x.free (r.0).sound at refl x.low
         (within x.s.sp base (length x.v.words) c.base (words fn) x.sp_is x.base_is d) x.link_fits x.kept x.link (omega arith)
-        (λ j l. (let m = x.arguments j (map_of args j) (argument_at args j (omega arith)) in
-        (m, small C placed flash a texts image (map_of args j) (slice_index x.v.words j) m))) x.frames in
+        (λ j l. (let m = x.arguments j (get_or args j default) (argument_at args j (omega arith)) in
+        (m, small C placed flash a texts image (get_or args j default) (slice_index x.v.words j) m))) x.frames in
         let q : Registers = record (registers_of y.seen (pl.at (length (entry_pieces fn place))) x.s) { sp = x.s.sp - 4 * words fn; lr = y.link } in
         let m : Fm = (bank_of y.seen bank, y.free') in
         let whole = reaches_add over fetch 0 most 8 (21 + 4 * fn.params) c.registers (memory_of flash c t) (registers_of x.v (pl.at 0) x.s) (bank, x.free) q m

@@ -15,7 +15,7 @@ use Rattle.register_assign.specs.declared.places.Placed.{Placed}
 use Rattle.register_assign.specs.Sound.{place_of}
 use Rattle.register_assign.specs.Unread.{is_unread}
 use Rattle.sts_syntax.specs.TypeRules.{entry}
-use Rattle.sts_meaning.specs.Values.{Value, Gives, then_gives, there, changed}
+use Rattle.sts_meaning.specs.Values.{Value, Gives, then_gives, there}
 use Rattle.sts_meaning.specs.Frames.{after}
 use Rattle.sts_meaning.specs.Heaps.{FlatHeap}
 use Rattle.flat_meaning.specs.Frames.{FlatFrame, Stands, given}
@@ -81,17 +81,17 @@ module _ (C : FlatCode) (placed : List Placed) (flash : List ℕ) (a : Addresses
 
     sets : (from : ℕ) → slice_get p.function.ops f.place ≡ Some (GlobalSet slot from) → Standing → IsShared C placed flash a used h t → (o : Option Value)
         → entry h.globals slot ≡ o
-        → NoFault (after (then_gives (there o) (λ old. Gives (record h { globals = changed h.globals slot (f.temps from) })))
+        → NoFault (after (then_gives (there o) (λ old. Gives (record h { globals = slice_set h.globals slot (f.temps from) })))
         (λ h'. Goes (Stands (record { function = f.function; place = f.place + 1; temps = f.temps }) callers base) h'))
         → Owed C placed flash a texts (op_instructions (GlobalSet slot from)) used h t
-        (after (then_gives (there o) (λ old. Gives (record h { globals = changed h.globals slot (f.temps from) })))
+        (after (then_gives (there o) (λ old. Gives (record h { globals = slice_set h.globals slot (f.temps from) })))
         (λ h'. Goes (Stands (record { function = f.function; place = f.place + 1; temps = f.temps }) callers base) h')) c t
     sets from e x sh None q nf = absurd nf
     sets from e x sh (Some old) q nf =
         let op = GlobalSet slot from in
         let k = here C placed flash a texts image p f callers base c used h t op e x sh in
         let lf : from < temporaries p.function = ((k.op_within).names).0 in
-        let h' : FlatHeap = record h { globals = changed h.globals slot (f.temps from) } in
+        let h' : FlatHeap = record h { globals = slice_set h.globals slot (f.temps from) } in
         let s = changes_global (IsText C placed flash a) (IsCode C placed flash a) a.class h used t.globals t.arena sh.1 slot (f.temps from) h'
         (ap (λ o. then_gives (there o) (λ old. Gives h')) q) in
         let l = s.0 in

@@ -26,7 +26,7 @@ use Rattle.register_assign.specs.Sound.{place_of}
 use Rattle.sts_syntax.specs.TypeRules.{entry}
 use Rattle.sts_meaning.specs.Values.{Value, Outcome, Gives, Breaks, Stuck, then_gives, there}
 use Rattle.sts_meaning.specs.Heaps.{FlatHeap, object_at}
-use Rattle.sts_meaning.specs.Frames.{after, first}
+use Rattle.sts_meaning.specs.Frames.{after}
 use Rattle.flat_meaning.specs.Frames.{FlatFrame, FlatActivity}
 use Rattle.flat_meaning.specs.Steps.{called}
 use Rattle.thumb_emit.specs.Emit.{passes, land, calls_slot, op_pieces, function_pieces}
@@ -58,11 +58,11 @@ use Rattle.emit_simulation.proofs.Returns.{behind_pieces}
 odd_code : (n : ℕ) → n % 4 ≡ 0 → is_odd (n + 1) ≡ true
 odd_code n e = grind arith
 
-first_is : (temps : ℕ → Value) (args : List ℕ) (o : Value) → first (map temps args) ≡ Gives o → (u : ℕ) × (slice_get args 0 ≡ Some u) × (temps u ≡ o)
+first_is : (temps : ℕ → Value) (args : List ℕ) (o : Value) → there (entry (map temps args) 0) ≡ Gives o → (u : ℕ) × (slice_get args 0 ≡ Some u) × (temps u ≡ o)
 first_is temps [] o e = cc
 first_is temps (u ∷ args) o e = let z : temps u ≡ o = cc in (u, refl, z)
 
-first_breaks : (vs : List Value) (code : ℕ) → first vs ≡ Breaks code → ⊥
+first_breaks : (vs : List Value) (code : ℕ) → there (entry vs 0) ≡ Breaks code → ⊥
 first_breaks [] code e = cc
 first_breaks (v ∷ vs) code e = cc
 
@@ -282,7 +282,7 @@ module _ (C : FlatCode) (placed : List Placed) (flash : List ℕ) (a : Addresses
         (null_turn o o0 seen.0)
     by_object o o0 Stuck seen nf = absurd nf
 
-    by_first : (k : Outcome Value) → first (map f.temps args) ≡ k → Makes_of
+    by_first : (k : Outcome Value) → there (entry (map f.temps args) 0) ≡ k → Makes_of
         (then_gives k (λ o. then_gives (object_at h o) (λ c. then_gives (there (entry C.classes c.0)) (λ class. there (entry class.slots slot)))))
     by_first (Gives v) q nf =
         let u = first_is f.temps args v q in
@@ -294,4 +294,4 @@ module _ (C : FlatCode) (placed : List Placed) (flash : List ℕ) (a : Addresses
 
   -- A CALL THROUGH A SLOT
   pub slot_makes : (to slot : ℕ) (args : List ℕ) → MakesOp C placed flash a texts (CallSlot to slot args)
-  slot_makes to slot args p f callers base c used h t e x sh nf = by_first p f callers base c used h t to slot args e x sh (first (map f.temps args)) refl nf
+  slot_makes to slot args p f callers base c used h t e x sh nf = by_first p f callers base c used h t to slot args e x sh (there (entry (map f.temps args) 0)) refl nf

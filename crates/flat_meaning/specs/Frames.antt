@@ -1,11 +1,11 @@
 -- Activities of flat code.
-use Rattle.std.specs.Prelude.{ℕ, ◌+◌, List, [], ◌∷◌, Option, Some, None}
+use Rattle.std.specs.Prelude.{ℕ, ◌+◌, List, [], ◌∷◌, Option, Some, None, get_or}
 use Rattle.flat_ir.specs.declared.ops.Op.{Op}
 use Rattle.flat_ir.specs.declared.ops.Op.TheVariants.{Call, CallSlot}
 use Rattle.flat_ir.specs.declared.ops.Function.{Function}
 use Rattle.flat_ir.specs.declared.ops.FlatCode.{FlatCode}
 use Rattle.sts_syntax.specs.TypeRules.{entry}
-use Rattle.sts_meaning.specs.Values.{Value, Outcome, Gives, Stuck, with_entry, map_of}
+use Rattle.sts_meaning.specs.Values.{Value, Outcome, Gives, Stuck, with_entry, default}
 
 -- a frame: a function, a place in its ops, and the values of the temporaries. A frame that waits stands at its call.
 pub record FlatFrame : Type 0 where
@@ -33,7 +33,7 @@ op_of (Some f) place = entry f.ops place
 
 -- a frame as it begins: the arguments are the first temporaries, and all others are 0
 abbrev pub entered : ℕ → List Value → FlatFrame
-entered f args = record { function = f; place = 0; temps = map_of args }
+entered f args = record { function = f; place = 0; temps = λ i. get_or args i default }
 
 -- a frame that goes on at a place; and behind its op, with a value in a temporary
 abbrev pub going_on_at : ℕ → FlatFrame → FlatFrame

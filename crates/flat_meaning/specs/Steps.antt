@@ -1,5 +1,5 @@
 -- The step of an activity of flat code, and flat code as a kind of activity.
-use Rattle.std.specs.Prelude.{ℕ, zero, suc, ◌+◌, Bool, if◌then◌else◌, nat_lt, ◌==◌, List, [], ◌∷◌, map, Option, Some, None}
+use Rattle.std.specs.Prelude.{ℕ, zero, suc, ◌+◌, Bool, if◌then◌else◌, nat_lt, ◌==◌, List, [], ◌∷◌, map, Option, Some, None, get_or}
 use Rattle.board_services.specs.declared.numbers.TheConstants.{PUSH}
 use Rattle.board_world.specs.Limits.{depth_limit}
 use Rattle.board_world.specs.Panics.{depth_panic}
@@ -19,7 +19,7 @@ use Rattle.sts_syntax.specs.TypeRules.{entry}
 use Rattle.sts_meaning.specs.Values.{Value, Whole, Object, Text, Code, default, Outcome, then_gives, there, applied, decided}
 use Rattle.sts_meaning.specs.Heaps.{FlatHeap, Fields, Items, with_cell, write_global, object_at, read_field, write_field, read_item, write_item, length_at, pushed, popped}
 use Rattle.sts_meaning.specs.Services.{requested}
-use Rattle.sts_meaning.specs.Frames.{stuck, after, grown, first, answered, text_of}
+use Rattle.sts_meaning.specs.Frames.{stuck, after, grown, answered}
 use Rattle.flat_meaning.specs.Operators.{prefixed_by, answers, zeros, exactly}
 use Rattle.flat_meaning.specs.Frames.{FlatFrame, FlatActivity, Enters, Stands, entered, going_on_at, given, result_of, words, op_at, depth_of}
 
@@ -75,7 +75,7 @@ module _ (C : FlatCode) (texts : List ByteList) where
 
     abbrev pub flat_asker : ℕ → Bool → Asker FlatActivity FlatHeap
     flat_asker to answers = record {
-      text = text_of texts;
+      text = λ n. get_or texts n [];
       glyph = glyph_of;
       push = λ array value. stuck;
       above = λ g. Enters g (base + depth_of C (f ∷ callers));
@@ -92,7 +92,7 @@ module _ (C : FlatCode) (texts : List ByteList) where
     -- the function in a slot of the first argument's class
     abbrev pub slot_function : ℕ → List Value → Outcome ℕ
     slot_function slot args =
-        then_gives (first args) (λ o. then_gives (object_at h o)
+        then_gives (there (entry args 0)) (λ o. then_gives (object_at h o)
         (λ c. then_gives (there (entry C.classes c.0)) (λ class. there (entry class.slots slot))))
 
     -- one op

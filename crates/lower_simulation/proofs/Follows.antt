@@ -20,7 +20,7 @@ use Rattle.sts_meaning.specs.Values.{Value, Whole, Object, Text, Code, default, 
 use Rattle.sts_meaning.specs.Heaps.{FlatHeap, Heap, Fields, with_cell, write_global, object_at, read_field, write_field, read_item, write_item, length_at, pushed, popped}
 use Rattle.sts_meaning.specs.Services.{requested}
 use Rattle.sts_meaning.specs.Continuation.{Continuation, Put, Get, Store, Drop, Unary, Apply, Choose, Both, Either, Read, Peek, Write, At, PeekAt, SetAt, Bump, BumpField, BumpAt, Measure, Push, Pop, Open, Append, New, Build, Invoke, Send, Ask, Repeat, Again, Each, Leave, Give, Round, Impossible, runs}
-use Rattle.sts_meaning.specs.Frames.{Names, Frame, Activity, Starts, Runs, after, grown, taken, named, with_local, with_param, stored, defaults, first, answered, round}
+use Rattle.sts_meaning.specs.Frames.{Names, Frame, Activity, Starts, Runs, after, grown, taken, named, with_local, with_param, stored, defaults, answered, round}
 use Rattle.sts_meaning.specs.Steps as source
 use Rattle.sts_implements.specs.Forgotten.{forget}
 use Rattle.sts_implements.proofs.Laws.{Agree, after_matches, agree_then, agree_same, IsForgotten, ArePushed, ArePopped, object_agrees, read_field_agrees, write_field_agrees, read_item_agrees, write_item_agrees, pushed_agrees, popped_agrees, length_agrees, new_agrees, open_agrees, write_global_agrees}
@@ -318,19 +318,19 @@ module _ (P : TypedProgram) (texts : List ByteList) (fine : IsFine P) (weight : 
         (λ c d r. subst (λ (y : FlatClass). Agree (λ a b. a ≡ b) (there (entry c.slots s)) (there (entry y.slots s))) r (agree_same (there (entry c.slots s))))))
 
     send_matches : (s : ℕ) (args args' : List Value) (q : Marks) (rest : List Value) (k : Continuation) (pc : ℕ) (temps : ℕ → Value) → args' ≡ args → result_of (fetch pc) ≡ Gives (params + locals + length q) → Sh n q rest temps → By k (pc + 1) (None ∷ q)
-        → NoFault (after (then_gives (first args) (λ ob. source.method P texts h ob s)) (λ g. source.invoked P texts h base depth g args (record { function = f; names = n; values = rest; todo = k } ∷ callers)))
-        → M used h (after (then_gives (first args) (λ ob. source.method P texts h ob s)) (λ g. source.invoked P texts h base depth g args (record { function = f; names = n; values = rest; todo = k } ∷ callers)))
+        → NoFault (after (then_gives (there (entry args 0)) (λ ob. source.method P texts h ob s)) (λ g. source.invoked P texts h base depth g args (record { function = f; names = n; values = rest; todo = k } ∷ callers)))
+        → M used h (after (then_gives (there (entry args 0)) (λ ob. source.method P texts h ob s)) (λ g. source.invoked P texts h base depth g args (record { function = f; names = n; values = rest; todo = k } ∷ callers)))
         (after (flat.slot_function (lowered P) texts (forget h) (fr j pc temps) waiting base s args') (λ g. flat.called (lowered P) texts (forget h) base (fr j pc temps ∷ waiting) g args'))
     send_matches s args args' q rest k pc temps same result shows near nf =
         subst (λ xs. M used h turn (after (flat.slot_function (lowered P) texts (forget h) (fr j pc temps) waiting base s xs) (λ g. flat.called (lowered P) texts (forget h) base (fr j pc temps ∷ waiting) g xs))) (sym same)
-        (by_found (then_gives (first args) (λ ob. source.method P texts h ob s)) (flat.slot_function (lowered P) texts (forget h) (fr j pc temps) waiting base s args)
-        (agree_then (λ x y. x ≡ y) (λ x y. x ≡ y) (first args) (first args) _ _ (agree_same (first args)) (λ x y e. subst (λ z. Agree (λ a b. a ≡ b) (source.method P texts h x s) (then_gives (object_at (forget h) z) (λ c. then_gives (there (entry (flat_classes P.classes) c.0)) (λ class. there (entry class.slots s))))) e (method_agrees x s))) nf)
+        (by_found (then_gives (there (entry args 0)) (λ ob. source.method P texts h ob s)) (flat.slot_function (lowered P) texts (forget h) (fr j pc temps) waiting base s args)
+        (agree_then (λ x y. x ≡ y) (λ x y. x ≡ y) (there (entry args 0)) (there (entry args 0)) _ _ (agree_same (there (entry args 0))) (λ x y e. subst (λ z. Agree (λ a b. a ≡ b) (source.method P texts h x s) (then_gives (object_at (forget h) z) (λ c. then_gives (there (entry (flat_classes P.classes) c.0)) (λ class. there (entry class.slots s))))) e (method_agrees x s))) nf)
       where
         goes_to : ℕ → Turn Activity Heap
         goes_to g = source.invoked P texts h base depth g args (record { function = f; names = n; values = rest; todo = k } ∷ callers)
 
         turn : Turn Activity Heap
-        turn = after (then_gives (first args) (λ ob. source.method P texts h ob s)) (λ g. source.invoked P texts h base depth g args (record { function = f; names = n; values = rest; todo = k } ∷ callers))
+        turn = after (then_gives (there (entry args 0)) (λ ob. source.method P texts h ob s)) (λ g. source.invoked P texts h base depth g args (record { function = f; names = n; values = rest; todo = k } ∷ callers))
 
         by_found : (x y : Outcome ℕ) → Agree (λ a b. a ≡ b) x y → NoFault (after x (λ g. source.invoked P texts h base depth g args (record { function = f; names = n; values = rest; todo = k } ∷ callers)))
             → M used h (after x (λ g. source.invoked P texts h base depth g args (record { function = f; names = n; values = rest; todo = k } ∷ callers))) (after y (λ g. flat.called (lowered P) texts (forget h) base (fr j pc temps ∷ waiting) g args))
@@ -542,9 +542,9 @@ module _ (P : TypedProgram) (texts : List ByteList) (fine : IsFine P) (weight : 
         → NoFault (sact (Send s m k) vs) → Mk 488 used h (sact (Send s m k) vs) (here pc temps) (forget h)
     sent_follows s m k r q vs pc temps above e shows near nf =
         let t = call_args m r q vs temps above shows in
-        let turn = after (then_gives (first t.these) (λ ob. source.method P texts h ob s)) (λ g. source.invoked P texts h base depth g t.these (record { function = f; names = n; values = t.rest; todo = k } ∷ callers)) in
+        let turn = after (then_gives (there (entry t.these 0)) (λ ob. source.method P texts h ob s)) (λ g. source.invoked P texts h base depth g t.these (record { function = f; names = n; values = t.rest; todo = k } ∷ callers)) in
         let to : sact (Send s m k) vs ≡ turn =
-        ap (λ x. after x (λ (x : List Value × List Value). after (then_gives (first x.0) (λ ob. source.method P texts h ob s)) (λ g. source.invoked P texts h base depth g x.0 (record { function = f; names = n; values = x.1; todo = k } ∷ callers)))) t.taken in
+        ap (λ x. after x (λ (x : List Value × List Value). after (then_gives (there (entry x.0 0)) (λ ob. source.method P texts h ob s)) (λ g. source.invoked P texts h base depth g x.0 (record { function = f; names = n; values = x.1; todo = k } ∷ callers)))) t.taken in
         let op = o.CallSlot (params + locals + length q) s (span (params + locals + length q) m []) in
         alone (Send s m k) vs pc temps op (omega arith) e
         (subst (λ u. M used h u (at_op (forget h) pc temps op)) (sym to)

@@ -1,6 +1,6 @@
 -- A turn of a loop over items is followed.
 use Rattle.std.proofs.Common.{◌≡◌, ◌≢◌, ℕ, suc, ◌+◌, ◌<◌, ◌≤◌, inl, ⊎_elim, List, [], length, Option, Some, None, Bool, true, false, refl, sym, ap, ◌∙◌, subst, arith}
-use Rattle.std.specs.Prelude.{ℤ, pos, negsuc, ◌+ℤ◌, if◌then◌else◌, nat_eq, int_lt}
+use Rattle.std.specs.Prelude.{ℤ, pos, negsuc, ◌+ℤ◌, if◌then◌else◌, nat_eq, int_lt, option_map}
 use Rattle.std.proofs.lemmas.Bool.Decides.{eqb_tells}
 use Rattle.board_world.specs.Panics.{index_panic}
 use Rattle.board_world.specs.Observations.{ByteList}
@@ -11,8 +11,9 @@ use Rattle.flat_ir.specs.declared.ops.Op.TheVariants as o
 use Rattle.sts_syntax.specs.TypedTrees.{TypedStatement, TypedProgram}
 use Rattle.sts_syntax.specs.TypeRules.{entry}
 use Rattle.sts_syntax.specs.WellTypedPrograms.{is_maker}
+use Rattle.sts_syntax.specs.Types.{ValueType}
 use Rattle.sts_meaning.specs.Values.{truth, Value, Whole, Object, Text, Code, Outcome, Gives, Breaks, then_gives, to_int32, applied, decided, with_entry}
-use Rattle.sts_meaning.specs.Heaps.{FlatHeap, Heap, read_item, length_at, next_item, next_at, array_at, item_at, found, numbered, Row, RowOf}
+use Rattle.sts_meaning.specs.Heaps.{FlatHeap, Heap, read_item, length_at, next_item, next_at, array_at, item_at, found, RowOf}
 use Rattle.sts_meaning.specs.Continuation.{Continuation, Each, runs}
 use Rattle.sts_meaning.specs.Frames.{Names, Frame, Activity, Runs, after, with_local}
 use Rattle.sts_meaning.specs.Steps as source
@@ -198,8 +199,8 @@ module _ (P : TypedProgram) (texts : List ByteList) (fine : IsFine P) (weight : 
       reads : (q : RowOf (Unit {0})) (ix : Value) → array_at (forget h) list ≡ Gives q → read_item (forget h) list ix ≡ then_gives (item_at q.items ix) (λ x. Gives x.1)
       reads q ix e = ap (λ x. then_gives x (λ (r : RowOf (Unit {0})). then_gives (item_at r.items ix) (λ x. Gives x.1))) e
 
-      by_entry : (m : ℕ) (r : Row) (q : RowOf (Unit {0})) (x : Option Value) → index ≡ Whole (pos m) → r.items ≡ q.items → array_at (forget h) list ≡ Gives q → entry r.items m ≡ x
-          → Mk 432 used h (goes_item (numbered m x)) (here (pc + 1) (first_temps (length q.items))) (forget h)
+      by_entry : (m : ℕ) (r : RowOf ValueType) (q : RowOf (Unit {0})) (x : Option Value) → index ≡ Whole (pos m) → r.items ≡ q.items → array_at (forget h) list ≡ Gives q → entry r.items m ≡ x
+          → Mk 432 used h (goes_item (option_map (λ v. (m, v)) x)) (here (pc + 1) (first_temps (length q.items))) (forget h)
       by_entry m r q None is same at e =
           let past : length q.items ≤ m = entry_none q.items m (ap (λ (vs : List Value). entry vs m) (sym same) ∙ e) in
           within P texts weight light 368 432 used h _ _ _ (omega arith) (loop_ends m (length q.items) is past)
@@ -207,7 +208,7 @@ module _ (P : TypedProgram) (texts : List ByteList) (fine : IsFine P) (weight : 
           let e' : entry q.items m ≡ Some v = ap (λ (vs : List Value). entry vs m) (sym same) ∙ e in
           loop_goes_on m (length q.items) v is (entry_within q.items m v e') (reads q (Whole (pos m)) at ∙ ap (λ x. then_gives (found m x) (λ x. Gives x.1)) e')
 
-      by_index : (ix : Value) → index ≡ ix → (r : Row) (q : RowOf (Unit {0})) → r.items ≡ q.items → array_at (forget h) list ≡ Gives q → NoFault (after (next_at r.items ix) goes_item)
+      by_index : (ix : Value) → index ≡ ix → (r : RowOf ValueType) (q : RowOf (Unit {0})) → r.items ≡ q.items → array_at (forget h) list ≡ Gives q → NoFault (after (next_at r.items ix) goes_item)
           → Mk 432 used h (after (next_at r.items ix) goes_item) (here (pc + 1) (first_temps (length q.items))) (forget h)
       by_index (Whole (pos m)) is r q same at nf = by_entry m r q (entry r.items m) is same at refl
       by_index (Whole (negsuc m)) is r q same at nf = loop_breaks m (length q.items) is (reads q (Whole (negsuc m)) at)

@@ -1,6 +1,6 @@
 -- Calls and activities that begin are followed.
 use Rattle.std.proofs.Common.{◌≡◌, ℕ, ◌+◌, ◌-◌, ◌≤◌, inl, inr, List, [], ◌∷◌, length, Option, Some, None, Bool, true, false, refl, sym, ap, ◌∙◌, subst, arith}
-use Rattle.std.specs.Prelude.{pos, if◌then◌else◌, ◌==◌, nat_lt}
+use Rattle.std.specs.Prelude.{pos, if◌then◌else◌, ◌==◌, nat_lt, get_or}
 use Rattle.std.proofs.lemmas.Bool.{lt-ltb, le-ltb, eqb-true}
 use Rattle.board_world.specs.Limits.{depth_limit}
 use Rattle.board_world.specs.Panics.{depth_panic}
@@ -10,7 +10,7 @@ use Rattle.board_world.specs.Sound.{NoFault}
 use Rattle.sts_syntax.specs.TypedTrees.{TypedRoutine, TypedProgram}
 use Rattle.sts_syntax.specs.TypeRules.{entry, IsOneOf}
 use Rattle.sts_syntax.specs.WellTypedPrograms.{is_maker}
-use Rattle.sts_meaning.specs.Values.{Value, Whole, default, Gives, Stuck, there, map_of}
+use Rattle.sts_meaning.specs.Values.{Value, Whole, default, Gives, Stuck, there}
 use Rattle.sts_meaning.specs.Heaps.{FlatHeap, Heap}
 use Rattle.sts_meaning.specs.Continuation.{Put, Drop, Ask, Round}
 use Rattle.sts_meaning.specs.Frames.{Names, Frame, Activity, Runs, stuck, after, round}
@@ -44,7 +44,7 @@ module _ (P : TypedProgram) (texts : List ByteList) (fine : IsFine P) (weight : 
       body_at P.classes (length P.functions) (repeating P) (repeated_in_program P) (length r.params) (length r.locals) (fetched P texts f) (is_maker P.classes f) (fine.this f r at) r.all (fine.all f r at)
       (has_all (entry (lowered P).functions f) (lowered_routine P f r) (routine_there P f r at))
 
-  entered_shows : (r : TypedRoutine) (args : List Value) → length args ≡ length r.params → Shows (length r.params) (length r.locals) (record { params = map_of args; locals = λ i. default }) [] [] (map_of args)
+  entered_shows : (r : TypedRoutine) (args : List Value) → length args ≡ length r.params → Shows (length r.params) (length r.locals) (record { params = λ i. get_or args i default; locals = λ i. default }) [] [] (λ i. get_or args i default)
   entered_shows r args e = record {
     of_params = λ i lt. refl;
     of_locals = λ i lt. map_past args (length r.params + i) (omega arith);
@@ -102,7 +102,7 @@ module _ (P : TypedProgram) (texts : List ByteList) (fine : IsFine P) (weight : 
       let i' = repeating P g in
       let there' = repeating_there P g among in
       let names : Names = record { params = λ x. default; locals = λ x. default } in
-      let shows : Shows 0 0 names [] [] (map_of []) = record { of_params = λ x lt. refl; of_locals = λ x lt. refl; pending = tt } in
+      let shows : Shows 0 0 names [] [] (λ i. get_or [] i default) = record { of_params = λ x lt. refl; of_locals = λ x lt. refl; pending = tt } in
       let lies = round_lies f i' g (has_all (entry (lowered P).functions i') (repeating_function g) there') in
       let tied : FrameTied P texts (source.entered_round P texts g) (entered i' []) =
       record { params = 0; locals = 0; marks = []; words = repeating_frames P texts g among; this = λ e. absurd (fine.makers g e); shows = shows; near = inl lies } in

@@ -1,9 +1,9 @@
 -- Temporaries that show names and pending values.
 use Rattle.std.proofs.Common.{◌≡◌, ◌≢◌, ℕ, zero, suc, ◌+◌, ◌<◌, ◌≤◌, ◌⊎◌, inl, inr, ⊎_elim, List, [], ◌∷◌, length, Option, refl, sym, ap, ◌∙◌, subst, arith, map}
-use Rattle.std.specs.Prelude.{if◌then◌else◌}
+use Rattle.std.specs.Prelude.{if◌then◌else◌, get_or}
 use Rattle.std.proofs.lemmas.Bool.{eq-eqb}
 use Rattle.std.proofs.lemmas.Bool.Decides.{eqb_tells}
-use Rattle.sts_meaning.specs.Values.{Value, Gives, then_gives, default, with_entry, map_of}
+use Rattle.sts_meaning.specs.Values.{Value, Gives, then_gives, default, with_entry}
 use Rattle.sts_meaning.specs.Frames.{Names, with_local, with_param, before_these, taken}
 use Rattle.sts_lower.specs.Code.{span}
 use Rattle.std.specs.List.{AllZip}
@@ -116,7 +116,7 @@ marked m base (k ∷ p) (v ∷ vs) h = (h.1, marked m base p vs h.2)
 marked m base [] (v ∷ vs) h = absurd h
 marked m base (k ∷ p) [] h = absurd h
 
-pub map_past : (vs : List Value) (j : ℕ) → length vs ≤ j → map_of vs j ≡ default
+pub map_past : (vs : List Value) (j : ℕ) → length vs ≤ j → get_or vs j default ≡ default
 map_past [] j le = refl
 map_past (v ∷ vs) zero le = absurd (omega arith)
 map_past (v ∷ vs) (suc j) le = map_past vs j (omega arith)

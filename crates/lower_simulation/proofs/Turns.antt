@@ -1,6 +1,6 @@
 -- Turns of an activity of the source and one of flat code that match.
 use Rattle.std.proofs.Common.{◌≡◌, ℕ, zero, suc, ◌+◌, ◌≤◌, inl, List, ◌∷◌, length, Some, refl, sym, ap, ◌∙◌, subst, arith}
-use Rattle.std.specs.Prelude.{ℤ, pos}
+use Rattle.std.specs.Prelude.{ℤ, pos, get_or, []}
 use Rattle.board_world.specs.Observations.{ByteList}
 use Rattle.board_world.specs.Font.{glyph_of}
 use Rattle.board_world.specs.declared.requests.Request.{Request}
@@ -13,7 +13,7 @@ use Rattle.flat_ir.specs.declared.ops.Op.{Op}
 use Rattle.sts_syntax.specs.TypedTrees.{TypedProgram}
 use Rattle.sts_meaning.specs.Values.{Outcome, Gives, Breaks, Stuck}
 use Rattle.sts_meaning.specs.Heaps.{FlatHeap, Heap}
-use Rattle.sts_meaning.specs.Frames.{Activity, Starts, Runs, stuck, after, grown, text_of}
+use Rattle.sts_meaning.specs.Frames.{Activity, Starts, Runs, stuck, after, grown}
 use Rattle.sts_meaning.specs.Steps.{source}
 use Rattle.sts_meaning.specs.Steps as source
 use Rattle.sts_implements.specs.Forgotten.{forget}
@@ -59,8 +59,8 @@ module _ (P : TypedProgram) (texts : List ByteList) (weight : FlatActivity → F
       → ((z : ℤ) → Tied P texts (next z).0 (next' z).0) → ((z : ℤ) → forget (next z).1 ≡ (next' z).1)
       → (r : Request) → NamesAmong (length P.functions) r
       → Match used h
-      (asked (record { text = text_of texts; glyph = glyph_of; push = λ array value. stuck; above = above; again = again; next = next }) r)
-      (asked (record { text = text_of texts; glyph = glyph_of; push = λ array value. stuck; above = above'; again = again'; next = next' }) r)
+      (asked (record { text = λ n. get_or texts n []; glyph = glyph_of; push = λ array value. stuck; above = above; again = again; next = next }) r)
+      (asked (record { text = λ n. get_or texts n []; glyph = glyph_of; push = λ array value. stuck; above = above'; again = again'; next = next' }) r)
   asked_matches used h above again above' again' next next' up re tied heap r names = by r names
     where
       goes : (z : ℤ) → Going T used h (forget h) (next z) (next' z)
@@ -71,8 +71,8 @@ module _ (P : TypedProgram) (texts : List ByteList) (weight : FlatActivity → F
 
       by : (r : Request) → NamesAmong (length P.functions) r
           → Match used h
-          (asked (record { text = text_of texts; glyph = glyph_of; push = λ array value. stuck; above = above; again = again; next = next }) r)
-          (asked (record { text = text_of texts; glyph = glyph_of; push = λ array value. stuck; above = above'; again = again'; next = next' }) r)
+          (asked (record { text = λ n. get_or texts n []; glyph = glyph_of; push = λ array value. stuck; above = above; again = again; next = next }) r)
+          (asked (record { text = λ n. get_or texts n []; glyph = glyph_of; push = λ array value. stuck; above = above'; again = again'; next = next' }) r)
       by (Pause time) names = (refl, deep, goes (pos 0))
       by (Wait event) names = (refl, deep, goes (pos 0))
       by (Spawn f) names = (inl (names, refl), goes (pos 0))

@@ -1,12 +1,13 @@
 -- What is typed stays so while the heap grows.
 use Rattle.std.proofs.Common.{◌≡◌, ℕ, zero, suc, ◌+◌, ◌<◌, ◌≤◌, inl, inr, List, [], ◌∷◌, length, Option, Some, refl, ap, sym, ◌∙◌, subst, arith}
+use Rattle.std.specs.Prelude.{get_or}
 use Rattle.board_world.specs.Simulation.{Paired}
 use Rattle.sts_syntax.specs.Types as t
 use Rattle.sts_syntax.specs.Types.{ValueType}
 use Rattle.sts_syntax.specs.TypedTrees.{TypedRoutine, TypedProgram}
 use Rattle.sts_syntax.specs.TypeRules.{entry, Climbs, IsBelow, IsSubclass, TakesNull, GoesTo}
 use Rattle.sts_syntax.specs.WellTyped.{Setting}
-use Rattle.sts_meaning.specs.Values.{Value, Object, Outcome, Gives, Breaks, Stuck, then_gives, default, map_of}
+use Rattle.sts_meaning.specs.Values.{Value, Object, Outcome, Gives, Breaks, Stuck, then_gives, default}
 use Rattle.sts_meaning.specs.Heaps.{Cell, Fields, Items, Heap, with_cell}
 use Rattle.sts_meaning.specs.Frames.{Names, Frame, Activity, Starts, Runs, defaults, taken, before_these}
 use Rattle.meaning_sound.specs.Sorts.{Sort, Of, Begins, Exactly, of_types, above, OfClass, OfItems, Shape, shape, Stands, Well, Is, IsA, Suits}
@@ -209,7 +210,7 @@ module _ (P : TypedProgram) where
   types_are h (u ∷ us) [] p = absurd p
   types_are h (u ∷ us) (v ∷ vs) p = (p.0, types_are h us vs p.1)
 
-  pub params_are : (h : Heap) (us : List ValueType) (vs : List Value) → Paired (Is P h) us vs → (i : ℕ) (u : ValueType) → entry us i ≡ Some u → Is P h u (map_of vs i)
+  pub params_are : (h : Heap) (us : List ValueType) (vs : List Value) → Paired (Is P h) us vs → (i : ℕ) (u : ValueType) → entry us i ≡ Some u → Is P h u (get_or vs i default)
   params_are h [] [] p i u e = cc
   params_are h [] (v ∷ vs) p i u e = absurd p
   params_are h (w ∷ us) [] p i u e = absurd p

@@ -1,9 +1,10 @@
 -- Entries of lists and maps.
 use Rattle.std.proofs.Common.{◌≡◌, ◌≢◌, ℕ, zero, suc, ⊎_elim, if◌then◌else◌, List, [], ◌∷◌, ◌++◌, Option, Some, refl, sym, subst}
+use Rattle.std.specs.Prelude.{slice_set}
 use Rattle.std.proofs.lemmas.Bool.Decides.{eqb_tells}
 use Rattle.board_world.specs.Simulation.{Paired}
 use Rattle.sts_syntax.specs.TypeRules.{entry}
-use Rattle.sts_meaning.specs.Values.{Value, changed, with_entry}
+use Rattle.sts_meaning.specs.Values.{Value, with_entry}
 use Rattle.meaning_sound.specs.Kept.{Every}
 
 pub some_same : {X : Type 0} (o : Option X) (x y : X) → o ≡ Some x → o ≡ Some y → x ≡ y
@@ -16,7 +17,7 @@ paired_entry R (z ∷ xs) [] i x h e = absurd h
 paired_entry R (z ∷ xs) (y ∷ ys) zero x h e = (y, refl, subst (λ w. R w y) (some_same (Some z) z x refl e) h.0)
 paired_entry R (z ∷ xs) (y ∷ ys) (suc i) x h e = paired_entry R xs ys i x h.1 e
 
-pub paired_changed : {X Y : Type 0} (R : X → Y → Type 0) (xs : List X) (ys : List Y) (i : ℕ) (x : X) (y : Y) → Paired R xs ys → entry xs i ≡ Some x → R x y → Paired R xs (changed ys i y)
+pub paired_changed : {X Y : Type 0} (R : X → Y → Type 0) (xs : List X) (ys : List Y) (i : ℕ) (x : X) (y : Y) → Paired R xs ys → entry xs i ≡ Some x → R x y → Paired R xs (slice_set ys i y)
 paired_changed R [] [] i x y h e r = tt
 paired_changed R [] (w ∷ ys) i x y h e r = absurd h
 paired_changed R (z ∷ xs) [] i x y h e r = absurd h
@@ -35,7 +36,7 @@ module _ (Q : Value → Type 0) where
   every_entry (w ∷ vs) zero v h e = subst Q (some_same (Some w) w v refl e) h.0
   every_entry (w ∷ vs) (suc i) v h e = every_entry vs i v h.1 e
 
-  pub every_changed : (vs : List Value) (i : ℕ) (v : Value) → Every Q vs → Q v → Every Q (changed vs i v)
+  pub every_changed : (vs : List Value) (i : ℕ) (v : Value) → Every Q vs → Q v → Every Q (slice_set vs i v)
   every_changed [] i v h q = tt
   every_changed (w ∷ vs) zero v h q = (q, h.1)
   every_changed (w ∷ vs) (suc i) v h q = (h.0, every_changed vs i v h.1 q)

@@ -1,5 +1,6 @@
 -- Operations on typed values aren't stuck, and give typed values.
 use Rattle.std.proofs.Common.{◌≡◌, ℕ, zero, suc, ◌+◌, inl, inr, ℤ, pos, negsuc, Bool, true, false, not, if◌then◌else◌, nat_lt, List, [], ◌∷◌, ◌++◌, length, Option, Some, None, refl, ap, sym, ◌∙◌, subst, arith}
+use Rattle.std.specs.Prelude.{slice_set, option_map}
 use Rattle.std.specs.Ordering.{int_eq}
 use Rattle.board_world.specs.Simulation.{Paired}
 use Rattle.sts_syntax.specs.declared.typed.Spot.{Spot}
@@ -11,8 +12,8 @@ use Rattle.sts_syntax.specs.Measures.{wider_room}
 use Rattle.sts_syntax.specs.TypeRules.{entry, IsOneOf, arithmetic_operators, order_operators, equality_operators, number_prefixes, Prefixes, AreCompared, Works, HasClass, HasRoutine, Climbs, IsBelow, HasField, HasMethod}
 use Rattle.sts_syntax.specs.WellTyped.{Setting}
 use Rattle.sts_syntax.specs.WellTypedPrograms.{IsWellTyped}
-use Rattle.sts_meaning.specs.Values.{Value, Whole, Object, Text, Code, default, truth, Outcome, Gives, there, same, applied, applied_before, Bumped, bumped, decided, changed}
-use Rattle.sts_meaning.specs.Heaps.{Cell, Fields, Items, Heap, fields_of, object_at, Row, items_of, array_at, number_of, read_field, write_field, found, item_at, read_item, write_item, length_at, growth, wider, pushed, behind, last, shorter, popped, numbered, next_at, next_item}
+use Rattle.sts_meaning.specs.Values.{Value, Whole, Object, Text, Code, default, truth, Outcome, Gives, there, same, applied, applied_before, Bumped, bumped, decided}
+use Rattle.sts_meaning.specs.Heaps.{Cell, Fields, Items, Heap, fields_of, object_at, RowOf, items_of, array_at, number_of, read_field, write_field, found, item_at, read_item, write_item, length_at, growth, wider, pushed, behind, last, shorter, popped, next_at, next_item}
 use Rattle.sts_meaning.specs.Frames.{Names, named}
 use Rattle.sts_meaning.specs.Steps.{method}
 use Rattle.meaning_sound.specs.Sorts.{OfClass, OfItems, shape, Well, Is}
@@ -218,7 +219,7 @@ module _ (P : TypedProgram) where
   object_well used h c v heap p = cc
 
   -- an array that was found
-  pub record IsRow (h : Heap) (u : ValueType) (v : Value) (r : Row) : Type 0 where
+  pub record IsRow (h : Heap) (u : ValueType) (v : Value) (r : RowOf ValueType) : Type 0 where
     pub item : r.item ≡ u
     pub items : Every (Is P h r.item) r.items
     pub at : h.cells (number_of v) ≡ Some (Items r.item r.room r.items)
@@ -263,7 +264,7 @@ module _ (P : TypedProgram) where
         let same : i.0 ≡ q.class = some_same (entry P.classes x.0) i.0 q.class i.1 q.has in
         let old = found_field h c f u o x q k in
         then_well {Y = Heap} (λ z. Unit {0}) (Changed P used h) (there (entry x.1 f)) _ (there_well (λ z. Unit {0}) (entry x.1 f) old.0 old.1 tt)
-        (λ z _. cell_changed P used used h (number_of o) (Fields x.0 (changed x.1 f v)) (Fields x.0 x.1) heap (omega arith) q.at refl
+        (λ z _. cell_changed P used used h (number_of o) (Fields x.0 (slice_set x.1 f v)) (Fields x.0 x.1) heap (omega arith) q.at refl
         (q.class, q.has, paired_changed (Is P h) q.class.fields x.1 f u v q.fields (subst (λ (z : ClassEntry). entry z.fields f ≡ Some u) same i.2) w))))
 
     -- the method that is found in a slot
@@ -314,13 +315,13 @@ module _ (P : TypedProgram) where
   write_item_well used h u a i v heap p q w =
       then_well (IsRow h u a) (Changed P used h) (array_at h a) _ (array_well used h u a heap p)
       (λ r k. then_well (λ (x : ℕ × Value). Is P h r.item x.1) (Changed P used h) (item_at r.items i) _ (item_well h r.item r.items i k.items q)
-      (λ x z. cell_changed P used used h (number_of a) (Items r.item r.room (changed r.items x.0 v)) (Items r.item r.room r.items) heap (omega arith) k.at refl
+      (λ x z. cell_changed P used used h (number_of a) (Items r.item r.room (slice_set r.items x.0 v)) (Items r.item r.room r.items) heap (omega arith) k.at refl
       (every_changed (Is P h r.item) r.items x.0 v k.items (subst (λ (y : ValueType). Is P h y v) (sym k.item) w))))
 
   pub length_well : (used : ℕ) (h : Heap) (u : ValueType) (a : Value) → IsHeap P used h → Is P h (t.ListOf u) a → Well (Is P h t.Number) (length_at h a)
   length_well used h u a heap p = then_well (IsRow h u a) (Is P h t.Number) (array_at h a) _ (array_well used h u a heap p) (λ r k. tt)
 
-  wider_item : (r : Row) → (wider r).item ≡ r.item
+  wider_item : (r : RowOf ValueType) → (wider r).item ≡ r.item
   wider_item r = by_test (nat_lt (length r.items) r.room)
     where
       by_test : (b : Bool) → (if b then r else record { item = r.item; room = wider_room r.room; items = r.items }).item ≡ r.item
@@ -348,7 +349,7 @@ module _ (P : TypedProgram) where
   popped_well used h u a heap p =
       then_well (IsRow h u a) (λ (x : Value × Heap). Is P h u x.0 × Changed P used h x.1) (array_at h a) _ (array_well used h u a heap p) (λ r k. by_last r k (last r.items) (last_is (Is P h r.item) r.items k.items (last r.items) refl))
     where
-      by_last : (r : Row) → IsRow h u a r → (o : Option (Value × List Value)) → Both (Is P h r.item) o → Well (λ (x : Value × Heap). Is P h u x.0 × Changed P used h x.1) (shorter h a r o)
+      by_last : (r : RowOf ValueType) → IsRow h u a r → (o : Option (Value × List Value)) → Both (Is P h r.item) o → Well (λ (x : Value × Heap). Is P h u x.0 × Changed P used h x.1) (shorter h a r o)
       by_last r k None b = tt
       by_last r k (Some x) b =
           (subst (λ (w : ValueType). Is P h w x.0) k.item b.0, cell_changed P used used h (number_of a) (Items r.item r.room x.1) (Items r.item r.room r.items) heap (omega arith) k.at refl b.1)
@@ -361,7 +362,7 @@ module _ (P : TypedProgram) where
   next_well : (h : Heap) (w : ValueType) (items : List Value) (i : Value) → Every (Is P h w) items → Is P h t.Number i → Well (IsNext h w) (next_at items i)
   next_well h w items (Whole (pos n)) every p = by_entry (entry items n) refl
     where
-      by_entry : (o : Option Value) → entry items n ≡ o → IsNext h w (numbered n o)
+      by_entry : (o : Option Value) → entry items n ≡ o → IsNext h w (option_map (λ v. (n, v)) o)
       by_entry None e = tt
       by_entry (Some v) e = every_entry (Is P h w) items n v every e
   next_well h w items (Whole (negsuc n)) every p = tt

@@ -1,6 +1,6 @@
 -- Each step of a typed activity leaves all typed, and is no fault.
 use Rattle.std.proofs.Common.{◌≡◌, ℕ, zero, suc, ◌+◌, ◌-◌, ◌<◌, inl, inr, ℤ, pos, Bool, true, false, if◌then◌else◌, nat_lt, List, [], ◌∷◌, length, Option, Some, None, refl, ap, sym, ◌∙◌, subst, arith}
-use Rattle.std.specs.Prelude.{◌+ℤ◌}
+use Rattle.std.specs.Prelude.{◌+ℤ◌, slice_set}
 use Rattle.std.proofs.lemmas.Bool.{eq-eqb}
 use Rattle.std.proofs.lemmas.Bool.Decides.{nat_tests}
 use Rattle.board_world.specs.declared.requests.Request.{Request}
@@ -21,11 +21,11 @@ use Rattle.sts_syntax.specs.Measures.{object_words, array_words}
 use Rattle.sts_syntax.specs.TypeRules.{entry, HasClass, HasRoutine, MayBegin}
 use Rattle.sts_syntax.specs.WellTyped.{Setting, IsSound}
 use Rattle.sts_syntax.specs.WellTypedPrograms.{is_maker, setting, base_of_maker, IsWellTyped}
-use Rattle.sts_meaning.specs.Values.{to_int32, bumped, then_gives, Value, Whole, Object, Text, Code, default, Outcome, Gives, Breaks, Stuck, there, applied, applied_before, decided, changed, with_entry}
+use Rattle.sts_meaning.specs.Values.{to_int32, bumped, then_gives, Value, Whole, Object, Text, Code, default, Outcome, Gives, Breaks, Stuck, there, applied, applied_before, decided, with_entry}
 use Rattle.sts_meaning.specs.Heaps.{popped, Fields, Items, Heap, with_cell, read_field, write_field, read_item, write_item, length_at, pushed, next_item}
 use Rattle.sts_meaning.specs.Services.{requested}
 use Rattle.sts_meaning.specs.Continuation.{Continuation, Put, Get, Store, Drop, Unary, Apply, Choose, Both, Either, Read, Peek, Write, At, PeekAt, SetAt, Bump, BumpField, BumpAt, Measure, Push, Pop, Open, Append, New, Build, Invoke, Send, Ask, Repeat, Again, Each, Leave, Give, Round, runs}
-use Rattle.sts_meaning.specs.Frames.{Names, Frame, Activity, Starts, Runs, stuck, after, with_latest, with_two, with_three, taken, named, with_local, with_param, stored, defaults, first, answered, round, grown}
+use Rattle.sts_meaning.specs.Frames.{Names, Frame, Activity, Starts, Runs, stuck, after, with_latest, with_two, with_three, taken, named, with_local, with_param, stored, defaults, answered, round, grown}
 use Rattle.sts_meaning.specs.Steps.{repeating, words, entered, entered_round, method, entering, invoked, ended, begun, at, now, now_with, asker, takes_item, act, step, source, empty}
 use Rattle.meaning_sound.specs.Sorts.{Sort, Of, Begins, Exactly, of_types, above, Well, May, Is, IsA, IsRequest, Asks}
 use Rattle.meaning_sound.specs.Fits.{Answers, Given, IsStored, FitsValues}
@@ -241,9 +241,9 @@ module _ (P : TypedProgram) (good : IsWellTyped P) (texts : List ByteList) where
       pub called : AreNamed P x.1 S.routine x.0
       pub changed : Changed P used h x.1
 
-    global_changed : (g : ℕ) (u : ValueType) (v : Value) → entry P.globals g ≡ Some u → Is P h u v → Changed P used h (record h { globals = changed h.globals g v })
+    global_changed : (g : ℕ) (u : ValueType) (v : Value) → entry P.globals g ≡ Some u → Is P h u v → Changed P used h (record h { globals = slice_set h.globals g v })
     global_changed g u v has p =
-        (let h' : Heap = record h { globals = changed h.globals g v } in
+        (let h' : Heap = record h { globals = slice_set h.globals g v } in
         let grows : Grows h h' = λ m s st. st in
         record {
           heap = record {
@@ -258,7 +258,7 @@ module _ (P : TypedProgram) (good : IsWellTyped P) (texts : List ByteList) where
     stored_well (Local i) u v has p = record { called = local_named i u v n has p names; changed = same }
     stored_well (Global g) u v has p =
         (let q = paired_entry (Is P h) P.globals h.globals g u heap.globals has in
-        let h' : Heap = record h { globals = changed h.globals g v } in
+        let h' : Heap = record h { globals = slice_set h.globals g v } in
         let c : Changed P used h h' = global_changed g u v has p in
         subst (λ (o : Option Value). Well AreStored (then_gives (then_gives (there o) (λ old. Gives h')) (λ h''. Gives (n, h'')))) (sym q.1)
         (record { called = names_on P h h' c.grows S.routine n names; changed = c }))
@@ -305,7 +305,7 @@ module _ (P : TypedProgram) (good : IsWellTyped P) (texts : List ByteList) where
 
     send_typed : (s : ℕ) (c : ℕ) (params : List ValueType) (u : ValueType) (before : List Sort) (k : Continuation) → Rattle.sts_syntax.specs.TypeRules.HasMethod P c s params u → Given P (FitsValues P S k) (Of u) before
         → (x : List Value × List Value) → AreTaken P h (Of (t.Object c) ∷ of_types params) before x
-        → Typed used h (after (then_gives (first x.0) (λ o. method P texts h o s)) (λ g. invoked P texts h base depth g x.0 (at P texts h f n callers base depth x.1 k ∷ callers)))
+        → Typed used h (after (then_gives (there (entry x.0 0)) (λ o. method P texts h o s)) (λ g. invoked P texts h base depth g x.0 (at P texts h f n callers base depth x.1 k ∷ callers)))
     send_typed s c params u before k has fits ([], rest) p = absurd p.these
     send_typed s c params u before k has fits (o ∷ xs, rest) p =
         after_typed (IsFoundMethod P good h params u o) used h (method P texts h o s) _ (method_well P good used h c s params u o heap p.these.0 has)

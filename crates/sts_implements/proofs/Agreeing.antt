@@ -1,18 +1,15 @@
 -- Each operation over lowered code's heap gives what it gives over the source's, stuck to stuck: no types are needed.
 use Rattle.std.proofs.Common.{◌≡◌, ℕ, zero, suc, pos, negsuc, Bool, true, false, if◌then◌else◌, nat_lt, List, [], ◌∷◌, ◌++◌, length, Option, Some, None, refl, ap, ◌∙◌, subst}
-use Rattle.std.specs.Prelude.{nat_eq}
+use Rattle.std.specs.Prelude.{nat_eq, slice_set}
 use Rattle.std.proofs.Math.Path.{fun_ext}
 use Rattle.board_world.specs.Kinds.{Kind, Turn}
 use Rattle.board_world.specs.Simulation.{Ties, Matches}
-use Rattle.board_world.specs.Observations.{ByteList}
 use Rattle.sts_syntax.specs.Measures.{wider_room}
 use Rattle.sts_syntax.specs.TypeRules.{entry}
 use Rattle.sts_syntax.specs.Types.{ValueType}
-use Rattle.sts_syntax.specs.TypedTrees.{ClassEntry, TypedProgram}
-use Rattle.sts_meaning.specs.Values.{Value, Whole, Object, Text, Code, default, Outcome, Gives, Breaks, Stuck, then_gives, there, changed, with_entry}
-use Rattle.sts_meaning.specs.Heaps.{CellOf, Fields, Items, Cell, Heap, FlatHeap, RowOf, Row, with_cell, write_global, fields_of, object_at, items_of, array_at, number_of, put_fields, put_items, read_field, write_field, item_at, read_item, write_item, length_at, wider, pushed, last, shorter, popped, next_at, next_item}
-use Rattle.sts_meaning.specs.Frames.{after, defaults}
-use Rattle.sts_meaning.specs.Steps.{method}
+use Rattle.sts_meaning.specs.Values.{Value, Whole, Object, Text, Code, Outcome, Gives, Breaks, Stuck, then_gives, there, with_entry}
+use Rattle.sts_meaning.specs.Heaps.{CellOf, Fields, Items, Cell, Heap, FlatHeap, RowOf, with_cell, write_global, fields_of, object_at, items_of, array_at, number_of, put_fields, put_items, read_field, write_field, item_at, read_item, write_item, length_at, wider, pushed, last, shorter, popped, next_at, next_item}
+use Rattle.sts_meaning.specs.Frames.{after}
 use Rattle.sts_implements.specs.Forgotten.{Nothing, forget_cell, forget_at, forget}
 
 -- two outcomes agree: also where both are stuck
@@ -53,7 +50,7 @@ forget_with n c h =
     by_test m false = refl
 
 -- rows of the two heaps
-pub record AreRows (r : Row) (q : RowOf Nothing) : Type 0 where
+pub record AreRows (r : RowOf ValueType) (q : RowOf Nothing) : Type 0 where
   pub room : r.room ≡ q.room
   pub items : r.items ≡ q.items
 
@@ -96,15 +93,15 @@ read_field_agrees h o f = agree_then (λ x y. x ≡ y) (λ x y. x ≡ y) (object
 pub write_field_agrees : (h : Heap) (o v : Value) (f : ℕ) → Agree IsForgotten (write_field h o f v) (write_field (forget h) o f v)
 write_field_agrees h o v f =
     agree_then (λ x y. x ≡ y) IsForgotten (object_at h o) (object_at (forget h) o) _ _ (object_agrees h o)
-    (λ x y e. subst (λ (z : ℕ × List Value). Agree IsForgotten (then_gives (there (entry x.1 f)) (λ old. Gives (put_fields o x.0 (changed x.1 f v) h))) (then_gives (there (entry z.1 f)) (λ old. Gives (put_fields o z.0 (changed z.1 f v) (forget h))))) e
-    (agree_then (λ a b. a ≡ b) IsForgotten (there (entry x.1 f)) (there (entry x.1 f)) _ _ (agree_same (there (entry x.1 f))) (λ a b q. forget_with (number_of o) (Fields x.0 (changed x.1 f v)) h)))
+    (λ x y e. subst (λ (z : ℕ × List Value). Agree IsForgotten (then_gives (there (entry x.1 f)) (λ old. Gives (put_fields o x.0 (slice_set x.1 f v) h))) (then_gives (there (entry z.1 f)) (λ old. Gives (put_fields o z.0 (slice_set z.1 f v) (forget h))))) e
+    (agree_then (λ a b. a ≡ b) IsForgotten (there (entry x.1 f)) (there (entry x.1 f)) _ _ (agree_same (there (entry x.1 f))) (λ a b q. forget_with (number_of o) (Fields x.0 (slice_set x.1 f v)) h)))
 
 pub read_item_agrees : (h : Heap) (a i : Value) → Agree (λ x y. x ≡ y) (read_item h a i) (read_item (forget h) a i)
 read_item_agrees h a i =
     agree_then AreRows (λ x y. x ≡ y) (array_at h a) (array_at (forget h) a) _ _ (array_agrees h a)
     (λ r q e. same_outcome _ _ (ap (λ (vs : List Value). then_gives (item_at vs i) (λ x. Gives x.1)) e.items))
 
-put_agrees : (h : Heap) (a : Value) (r : Row) (q : RowOf Nothing) (vs ws : List Value) → r.room ≡ q.room → vs ≡ ws → IsForgotten (put_items a r vs h) (put_items a q ws (forget h))
+put_agrees : (h : Heap) (a : Value) (r : RowOf ValueType) (q : RowOf Nothing) (vs ws : List Value) → r.room ≡ q.room → vs ≡ ws → IsForgotten (put_items a r vs h) (put_items a q ws (forget h))
 put_agrees h a r q vs ws e d =
     forget_with (number_of a) (Items r.item r.room vs) h
     ∙ ap (λ (room : ℕ). with_cell (number_of a) (Items tt room vs) (forget h)) e ∙ ap (λ (xs : List Value). with_cell (number_of a) (Items tt q.room xs) (forget h)) d
@@ -113,7 +110,7 @@ pub write_item_agrees : (h : Heap) (a i v : Value) → Agree IsForgotten (write_
 write_item_agrees h a i v =
     agree_then AreRows IsForgotten (array_at h a) (array_at (forget h) a) _ _ (array_agrees h a)
     (λ r q e. agree_then (λ x y. x ≡ y) IsForgotten (item_at r.items i) (item_at q.items i) _ _ (same_outcome _ _ (ap (λ (vs : List Value). item_at vs i) e.items))
-    (λ x y d. put_agrees h a r q (changed r.items x.0 v) (changed q.items y.0 v) e.room (ap (λ (vs : List Value). changed vs x.0 v) e.items ∙ ap (λ (z : ℕ × Value). changed q.items z.0 v) d)))
+    (λ x y d. put_agrees h a r q (slice_set r.items x.0 v) (slice_set q.items y.0 v) e.room (ap (λ (vs : List Value). slice_set vs x.0 v) e.items ∙ ap (λ (z : ℕ × Value). slice_set q.items z.0 v) d)))
 
 -- the words that a push takes, and the heap behind it
 pub record ArePushed (x : ℕ × Heap) (y : ℕ × FlatHeap) : Type 0 where
@@ -126,11 +123,11 @@ pushed_agrees h a v =
     (λ r q e. (let room = e.room in let items = e.items in
     record { words = rw (room, items) refl; heap = put_agrees h a (wider r) (wider q) (r.items ++ v ∷ []) (q.items ++ v ∷ []) (wider_rooms r q e) (ap (λ (vs : List Value). vs ++ v ∷ []) items) }))
   where
-    wider_if : (b : Bool) (r : Row) (q : RowOf Nothing) → r.room ≡ q.room → (if b then r else record { item = r.item; room = wider_room r.room; items = r.items }).room ≡ (if b then q else record { item = q.item; room = wider_room q.room; items = q.items }).room
+    wider_if : (b : Bool) (r : RowOf ValueType) (q : RowOf Nothing) → r.room ≡ q.room → (if b then r else record { item = r.item; room = wider_room r.room; items = r.items }).room ≡ (if b then q else record { item = q.item; room = wider_room q.room; items = q.items }).room
     wider_if true r q e = e
     wider_if false r q e = ap wider_room e
 
-    wider_rooms : (r : Row) (q : RowOf Nothing) → AreRows r q → (wider r).room ≡ (wider q).room
+    wider_rooms : (r : RowOf ValueType) (q : RowOf Nothing) → AreRows r q → (wider r).room ≡ (wider q).room
     wider_rooms r q e =
         (let test : nat_lt (length r.items) r.room ≡ nat_lt (length q.items) q.room = (let room = e.room in let items = e.items in rw (room, items) refl) in
         wider_if (nat_lt (length r.items) r.room) r q e.room ∙ ap (λ (b : Bool). (if b then q else record { item = q.item; room = wider_room q.room; items = q.items }).room) test)
@@ -159,7 +156,7 @@ popped_agrees h a =
     agree_then AreRows ArePopped (array_at h a) (array_at (forget h) a) _ _ (array_agrees h a)
     (λ r q e. subst (λ (vs : List Value). Agree ArePopped (shorter h a r (last r.items)) (shorter (forget h) a q (last vs))) e.items (by_last r q e.room (last r.items)))
   where
-    by_last : (r : Row) (q : RowOf Nothing) → r.room ≡ q.room → (o : Option (Value × List Value)) → Agree ArePopped (shorter h a r o) (shorter (forget h) a q o)
+    by_last : (r : RowOf ValueType) (q : RowOf Nothing) → r.room ≡ q.room → (o : Option (Value × List Value)) → Agree ArePopped (shorter h a r o) (shorter (forget h) a q o)
     by_last r q e None = refl
     by_last r q e (Some x) = record { item = refl; heap = put_agrees h a r q x.1 x.1 e refl }
 

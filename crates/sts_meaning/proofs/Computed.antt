@@ -12,10 +12,9 @@ use Rattle.std.specs.Prelude.{pos, true, false, [], ◌∷◌, Some, None, codes
 use Rattle.std.specs.Fmt.{digits}
 use Rattle.std.specs.Int.{int_wrap}
 use Rattle.sts_meaning.specs.Steps.{words, repeating}
-use Rattle.sts_meaning.specs.Forms.{num, binary, less, board, call, send, handler, does, let_local, list, args}
-use Rattle.sts_meaning.specs.Programs.{written, written_on, pressed, written_until, counted, division, blinking, deep_handlers, two_handlers, endless, seats, past_the_end, through_null, at_once, endless_raisers, busy, deepest, many_objects, many_arrays, many_growths, written_with, texts, questions, deep, presses, big_worker, library_and_blinking, weights}
+use Rattle.sts_meaning.specs.Forms.{num, binary, less, board, call, send, handler, does, let_local, list, args, truths, steps, object, makes, name, bumps}
+use Rattle.sts_meaning.specs.Programs.{written, written_on, pressed, counted, division, blinking, deep_handlers, two_handlers, endless, seats, past_the_end, through_null, at_once, endless_raisers, busy, deepest, many_objects, many_arrays, many_growths, written_with, texts, questions, deep, presses, big_worker, library_and_blinking, weights}
 use Rattle.sts_meaning.specs.Orders.{item_set, set_each_time, item_set_past_the_end, item_added_past_the_end, item_taken_meanwhile, growing_list, list_evaluated_once, field_set_through_null, field_added_through_null, methods, constructors, early_stops, steps_of_a_name, unset, numbers_of_32_bits}
-use Rattle.sts_meaning.specs.Counts.{steps, object, makes, truth, falsehood, name, bumps}
 
 pub rows_of_numbers-division : written 30 division ≡ codes "0 serial 30\n0 serial 2d31\nend 0 quiet\n"
 unfolding digits int_wrap
@@ -33,7 +32,7 @@ pub rows_of_numbers-unset : written 30 unset ≡ codes "0 serial 30\n0 serial 30
 unfolding digits int_wrap
 rows_of_numbers-unset = refl
 
-pub rows_of_activities-blinking : written_until 60 blinking 50 ≡ codes "0 display #..../...../...../...../.....\n20 display ...../...../...../...../.....\n40 display #..../...../...../...../.....\nend 50 script\n"
+pub rows_of_activities-blinking : written_on 60 blinking 50 [] ≡ codes "0 display #..../...../...../...../.....\n20 display ...../...../...../...../.....\n40 display #..../...../...../...../.....\nend 50 script\n"
 unfolding digits int_wrap
 rows_of_activities-blinking = refl
 
@@ -189,11 +188,11 @@ pub counted_steps_of_expressions-operator : steps (does (binary ADD (num 1) (num
 unfolding digits int_wrap
 counted_steps_of_expressions-operator = refl
 
-pub counted_steps_of_expressions-both : steps (does (e.Both t.Boolean truth falsehood) ∷ []) ≡ 6
+pub counted_steps_of_expressions-both : steps (does (e.Both t.Boolean (truths true) (truths false)) ∷ []) ≡ 6
 unfolding digits int_wrap
 counted_steps_of_expressions-both = refl
 
-pub counted_steps_of_expressions-choice : steps (does (e.Choice t.Number truth (num 1) (num 2)) ∷ []) ≡ 6
+pub counted_steps_of_expressions-choice : steps (does (e.Choice t.Number (truths true) (num 1) (num 2)) ∷ []) ≡ 6
 unfolding digits int_wrap
 counted_steps_of_expressions-choice = refl
 
@@ -273,7 +272,7 @@ pub counted_steps_of_statements-declared : steps (e.Let false (record { name = L
 unfolding digits int_wrap
 counted_steps_of_statements-declared = refl
 
-pub counted_steps_of_statements-condition : steps (e.IfOnly truth e.Empty ∷ []) ≡ 5
+pub counted_steps_of_statements-condition : steps (e.IfOnly (truths true) e.Empty ∷ []) ≡ 5
 unfolding digits int_wrap
 counted_steps_of_statements-condition = refl
 
@@ -293,7 +292,7 @@ pub counted_steps_of_statements-items : steps (e.ForOf true (Local 0) (list (num
 unfolding digits int_wrap
 counted_steps_of_statements-items = refl
 
-pub counted_steps_of_statements-left : steps (e.While truth e.Break ∷ []) ≡ 6
+pub counted_steps_of_statements-left : steps (e.While (truths true) e.Break ∷ []) ≡ 6
 unfolding digits int_wrap
 counted_steps_of_statements-left = refl
 

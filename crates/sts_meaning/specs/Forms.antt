@@ -1,5 +1,9 @@
--- Short forms of typed trees.
-use Rattle.std.specs.Prelude.{ℕ, zero, suc, pos, negsuc, false, List, [], ◌∷◌, Option, Some}
+-- Short forms of typed trees, and how many counted steps they take.
+use Rattle.std.specs.Prelude.{ℕ, zero, suc, ◌-◌, pos, negsuc, Bool, true, false, if◌then◌else◌, List, [], ◌∷◌, length, Option, Some, None}
+use Rattle.board_world.specs.Board.{over}
+use Rattle.board_world.specs.Kinds.{Kind}
+use Rattle.board_world.specs.Activities.{World}
+use Rattle.board_world.specs.World.{tick}
 use Rattle.sts_syntax.specs.declared.operators.TheConstants.{EQUAL, LESS}
 use Rattle.sts_syntax.specs.declared.typed.Spot.TheVariants.{Param, Local, Global}
 use Rattle.sts_syntax.specs.declared.typed.Callee.TheVariants as c
@@ -8,8 +12,9 @@ use Rattle.sts_syntax.specs.declared.board_calls.BoardCall.TheVariants as b
 use Rattle.sts_syntax.specs.Types as t
 use Rattle.sts_syntax.specs.Types.{ValueType}
 use Rattle.sts_syntax.specs.TypedTrees as e
-use Rattle.sts_syntax.specs.TypedTrees.{TypedTree, TypedTrees, TypedStatement, TypedStatements, TypedDeclaration, TypedRoutine, ClassEntry, TypedProgram}
+use Rattle.sts_syntax.specs.TypedTrees.{TypedTree, TypedTrees, TypedStatement, TypedStatements, TypedRoutine, ClassEntry, TypedProgram}
 use Rattle.sts_syntax.specs.BoardTable.{row_of}
+use Rattle.sts_meaning.specs.Steps.{source, source_start}
 
 abbrev pub args : List TypedTree → TypedTrees
 args [] = e.none
@@ -34,6 +39,9 @@ local u i = e.Name u (Local i)
 
 abbrev pub global : ValueType → ℕ → TypedTree
 global u i = e.Name u (Global i)
+
+abbrev pub truths : Bool → TypedTree
+truths a = e.Truth t.Boolean a
 
 abbrev pub binary : ℕ → TypedTree → TypedTree → TypedTree
 binary op a b = e.Binary t.Number op a b
@@ -75,6 +83,12 @@ let_global g a = e.Let false (record { name = Global g; first = Some a } ∷ [])
 abbrev pub returns : TypedTree → TypedStatement
 returns a = e.Return (Some a)
 
+-- for (let i = 0; i < n; i++) { .. }, where i is local 0
+abbrev pub counts_to : ℕ → List TypedStatement → TypedStatement
+counts_to n all =
+    e.For (e.written (let_local 0 (num 0))) (Some (less (local t.Number 0) (num n)))
+    (Some (e.Bump t.Number (local t.Number 0) (pos 1) true)) (e.Block (block all))
+
 -- a function with these parameters and locals
 abbrev pub function : List ValueType → List ValueType → ValueType → List TypedStatement → TypedRoutine
 function params locals gives all = record { params = params; locals = locals; gives = gives; all = block all }
@@ -83,15 +97,10 @@ function params locals gives all = record { params = params; locals = locals; gi
 abbrev pub plain : List TypedStatement → TypedRoutine
 plain all = function [] [] t.Nothing all
 
-abbrev pub last_of : List TypedRoutine → ℕ
-last_of [] = 0
-last_of (r ∷ []) = 0
-last_of (r ∷ (s ∷ rest)) = suc (last_of (s ∷ rest))
-
 -- a program whose main function is the last one
 abbrev pub program : List ClassEntry → List ValueType → List TypedRoutine → TypedProgram
 program classes globals functions =
-    record { classes = classes; functions = functions; globals = globals; main = last_of functions }
+    record { classes = classes; functions = functions; globals = globals; main = length functions - 1 }
 
 -- a program without classes and globals
 abbrev pub simple : List TypedRoutine → TypedProgram
@@ -109,7 +118,34 @@ list these = e.Items numbers_type (args these)
 abbrev pub item : TypedTree → TypedTree → TypedTree
 item a i = e.Item t.Number a i
 
--- so many times
-abbrev pub repeated : {X : Type 0} → ℕ → X → List X
-repeated zero x = []
-repeated (suc n) x = x ∷ repeated n x
+-- the steps that a world makes before its end, at most n
+abbrev pub steps_within : {A S : Type 0} → Kind A S → ℕ → World A S → ℕ
+steps_within K zero w = 0
+steps_within K (suc n) w = if over w.board then 0 else suc (steps_within K n (tick K w))
+
+-- A class with one field and one method that does nothing, and a base of it; a function that does nothing; and the main program, with
+-- two globals, a number and an object, and three locals.
+abbrev pub main_does : List TypedStatement → TypedProgram
+main_does all =
+    program (class None (t.Number ∷ []) (1 ∷ []) 0 ∷ class (Some 0) (t.Number ∷ []) (1 ∷ []) 3 ∷ [])
+    (t.Number ∷ t.Object 0 ∷ [])
+    (function (t.Object 0 ∷ []) [] (t.Object 0) [] ∷ function (t.Object 0 ∷ []) [] t.Nothing [] ∷ plain []
+    ∷ function (t.Object 1 ∷ []) [] (t.Object 1) (does (e.SuperCall (t.Object 0) 0 e.none) ∷ [])
+    ∷ function [] (t.Number ∷ numbers_type ∷ t.Number ∷ []) t.Nothing all ∷ [])
+
+-- the counted steps of a run whose main program does this; without statements there are three: its call, and those of running off its end
+abbrev pub steps : List TypedStatement → ℕ
+steps all = (let P = main_does all in steps_within (source P []) 200 (source_start P [] 1000 []))
+
+abbrev pub object : TypedTree
+object = global (t.Object 0) 1
+
+-- the second global is set to an object, in 5 steps
+abbrev pub makes : TypedStatement
+makes = does (e.Set (t.Object 0) None object (e.Make (t.Object 0) 0 e.none))
+
+abbrev pub name : TypedTree
+name = global t.Number 0
+
+abbrev pub bumps : TypedTree → TypedStatement
+bumps x = does (e.Bump t.Number x (pos 1) true)

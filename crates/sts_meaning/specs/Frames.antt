@@ -1,7 +1,6 @@
 -- Activities: frames, their names and pending values, and what goes on with what an operation gives.
 use Rattle.std.specs.Prelude.{ℕ, zero, suc, ℤ, pos, Bool, true, false, List, [], ◌∷◌}
 use Rattle.board_services.specs.declared.numbers.TheConstants.{PAUSE}
-use Rattle.board_world.specs.Observations.{ByteList}
 use Rattle.board_world.specs.Kinds.{Turn, Goes, Takes, Panics, Faults}
 use Rattle.sts_syntax.specs.declared.typed.Spot.{Spot}
 use Rattle.sts_syntax.specs.declared.typed.Spot.TheVariants.{Param, Local, Global}
@@ -86,21 +85,10 @@ abbrev pub defaults : List ValueType → List Value
 defaults [] = []
 defaults (u ∷ us) = default ∷ defaults us
 
--- the first of some values
-abbrev pub first : List Value → Outcome Value
-first [] = Stuck
-first (v ∷ vs) = Gives v
-
 -- the value of a call of the board
 abbrev pub answered : Bool → ℤ → Value
 answered true answer = Whole (to_int32 answer)
 answered false answer = default
-
--- the bytes of a text
-abbrev pub text_of : List ByteList → ℕ → ByteList
-text_of [] n = []
-text_of (bytes ∷ rest) zero = bytes
-text_of (bytes ∷ rest) (suc n) = text_of rest n
 
 -- how long a `forever` pauses between two rounds, in milliseconds
 abbrev pub pause_of_forever : ℤ

@@ -1,10 +1,10 @@
 -- What all activities share, and what is read from it and written to it.
-use Rattle.std.specs.Prelude.{ℕ, zero, pos, negsuc, if◌then◌else◌, nat_lt, List, [], ◌∷◌, ◌++◌, length, Option, Some, None}
+use Rattle.std.specs.Prelude.{ℕ, zero, pos, negsuc, if◌then◌else◌, nat_lt, List, [], ◌∷◌, ◌++◌, length, slice_set, Option, Some, None, option_map}
 use Rattle.board_world.specs.Panics.{index_panic, null_panic}
 use Rattle.sts_syntax.specs.Types.{ValueType}
 use Rattle.sts_syntax.specs.Measures.{wider_room}
 use Rattle.sts_syntax.specs.TypeRules.{entry}
-use Rattle.sts_meaning.specs.Values.{Value, Whole, Object, Outcome, Gives, Breaks, Stuck, then_gives, there, changed, with_entry}
+use Rattle.sts_meaning.specs.Values.{Value, Whole, Object, Outcome, Gives, Breaks, Stuck, then_gives, there, with_entry}
 
 -- An object has its class. Of an array's items something may be noted, which no step reads: their type in the source, nothing in lowered code.
 pub data CellOf (N : Type 0) : Type 0 where
@@ -33,7 +33,7 @@ with_cell n c h = record h { cells = with_entry n (Some c) h.cells }
 -- a global is set; stuck where it isn't there
 abbrev pub write_global : {N : Type 0} → HeapOf N → ℕ → Value → Outcome (HeapOf N)
 write_global h g v =
-    then_gives (there (entry h.globals g)) (λ old. Gives (record h { globals = changed h.globals g v }))
+    then_gives (there (entry h.globals g)) (λ old. Gives (record h { globals = slice_set h.globals g v }))
 
 abbrev pub fields_of : {N : Type 0} → Option (CellOf N) → Outcome (ℕ × List Value)
 fields_of (Some (Fields class fields)) = Gives (class, fields)
@@ -50,9 +50,6 @@ pub record RowOf (N : Type 0) : Type 0 where
   pub item : N
   pub room : ℕ
   pub items : List Value
-
-abbrev pub Row : Type 0
-Row = RowOf ValueType
 
 abbrev pub items_of : {N : Type 0} → Option (CellOf N) → Outcome (RowOf N)
 items_of (Some (Items item room items)) = Gives (record { item = item; room = room; items = items })
@@ -82,7 +79,7 @@ read_field h o f = then_gives (object_at h o) (λ c. there (entry c.1 f))
 abbrev pub write_field : {N : Type 0} → HeapOf N → Value → ℕ → Value → Outcome (HeapOf N)
 write_field h o f v =
     then_gives (object_at h o)
-    (λ c. then_gives (there (entry c.1 f)) (λ old. Gives (put_fields o c.0 (changed c.1 f v) h)))
+    (λ c. then_gives (there (entry c.1 f)) (λ old. Gives (put_fields o c.0 (slice_set c.1 f v) h)))
 
 -- an index, and the item there; an index before the first item or behind the last is a panic
 abbrev pub found : ℕ → Option Value → Outcome (ℕ × Value)
@@ -100,7 +97,7 @@ read_item h a i = then_gives (array_at h a) (λ r. then_gives (item_at r.items i
 abbrev pub write_item : {N : Type 0} → HeapOf N → Value → Value → Value → Outcome (HeapOf N)
 write_item h a i v =
     then_gives (array_at h a)
-    (λ r. then_gives (item_at r.items i) (λ x. Gives (put_items a r (changed r.items x.0 v) h)))
+    (λ r. then_gives (item_at r.items i) (λ x. Gives (put_items a r (slice_set r.items x.0 v) h)))
 
 abbrev pub length_at : {N : Type 0} → HeapOf N → Value → Outcome Value
 length_at h a = then_gives (array_at h a) (λ r. Gives (Whole (pos (length r.items))))
@@ -110,8 +107,7 @@ abbrev pub growth : {N : Type 0} → RowOf N → ℕ
 growth r = if nat_lt (length r.items) r.room then 0 else wider_room r.room
 
 abbrev pub wider : {N : Type 0} → RowOf N → RowOf N
-wider r =
-    if nat_lt (length r.items) r.room then r else record { item = r.item; room = wider_room r.room; items = r.items }
+wider r = if nat_lt (length r.items) r.room then r else record r { room = wider_room r.room }
 
 abbrev pub pushed : {N : Type 0} → HeapOf N → Value → Value → Outcome (ℕ × HeapOf N)
 pushed h a v = then_gives (array_at h a) (λ r. Gives (growth r, put_items a (wider r) (r.items ++ v ∷ []) h))
@@ -135,13 +131,9 @@ shorter h a r (Some x) = Gives (x.0, put_items a r x.1 h)
 abbrev pub popped : {N : Type 0} → HeapOf N → Value → Outcome (Value × HeapOf N)
 popped h a = then_gives (array_at h a) (λ r. shorter h a r (last r.items))
 
-abbrev pub numbered : ℕ → Option Value → Option (ℕ × Value)
-numbered i None = None
-numbered i (Some v) = Some (i, v)
-
 -- the next item of a list that is gone through and its index, unless there is none behind the last one
 abbrev pub next_at : List Value → Value → Outcome (Option (ℕ × Value))
-next_at items (Whole (pos i)) = Gives (numbered i (entry items i))
+next_at items (Whole (pos i)) = Gives (option_map (λ v. (i, v)) (entry items i))
 next_at items (Whole (negsuc i)) = Breaks index_panic
 next_at items v = Stuck
 

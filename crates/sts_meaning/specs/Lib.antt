@@ -7,4 +7,3 @@ pub mod Steps
 pub mod Forms
 pub mod Programs
 pub mod Orders
-pub mod Counts

@@ -1,13 +1,12 @@
 -- Programs that tell the order in which things are done. In each, `tell(n)` writes n and gives it.
-use Rattle.std.specs.Prelude.{ℕ, pos, negsuc, Bool, true, false, List, [], ◌∷◌, Some, None}
+use Rattle.std.specs.Prelude.{ℕ, pos, negsuc, true, false, List, [], ◌∷◌, Some, None}
 use Rattle.sts_syntax.specs.declared.operators.TheConstants.{SHIFT_LEFT, SHIFT_RIGHT, SHIFT_RIGHT_UNSIGNED, ADD, SUBTRACT, MULTIPLY, DIVIDE}
 use Rattle.sts_syntax.specs.declared.typed.Spot.TheVariants.{Local}
 use Rattle.sts_syntax.specs.declared.typed.Callee.TheVariants as c
 use Rattle.sts_syntax.specs.Types as t
-use Rattle.sts_syntax.specs.Types.{ValueType}
 use Rattle.sts_syntax.specs.TypedTrees as e
 use Rattle.sts_syntax.specs.TypedTrees.{TypedTree, TypedStatement, TypedRoutine, ClassEntry, TypedProgram}
-use Rattle.sts_meaning.specs.Forms.{args, num, minus, param, local, global, binary, less, equal, call, send, does, says, let_local, let_global, returns, function, plain, program, simple, class, numbers_type, list, item}
+use Rattle.sts_meaning.specs.Forms.{args, num, minus, truths, counts_to, param, local, global, binary, less, equal, call, send, does, says, let_local, let_global, returns, function, plain, program, simple, class, numbers_type, list, item}
 use Rattle.sts_meaning.specs.Programs.{point, make_point}
 
 abbrev pub telling : TypedRoutine
@@ -130,9 +129,6 @@ constructors =
     ∷ does (tell 0 5) ∷ e.Return None ∷ [])
     ∷ plain (says (e.Field t.Number (e.Make (t.Object 1) 1 (args (tell 0 3 ∷ []))) 1) ∷ []) ∷ [])
 
-abbrev pub truths : Bool → TypedTree
-truths a = e.Truth t.Boolean a
-
 -- `&&`, `||` and `?:` stop early: if (false && told()) { .. } and so on, where told() writes 9
 abbrev pub early_stops : TypedProgram
 early_stops =
@@ -168,7 +164,5 @@ numbers_of_32_bits =
 abbrev pub set_each_time : TypedProgram
 set_each_time =
     simple (function [] (t.Number ∷ t.Number ∷ []) t.Nothing
-    (e.For (e.written (let_local 0 (num 0))) (Some (less (local t.Number 0) (num 2)))
-    (Some (e.Bump t.Number (local t.Number 0) (pos 1) true))
-    (e.Block (e.also (e.Let false (record { name = Local 1; first = None } ∷ []))
-    (e.also (says (local t.Number 1)) (e.also (sets (local t.Number 1) (num 7)) e.done)))) ∷ []) ∷ [])
+    (counts_to 2 (e.Let false (record { name = Local 1; first = None } ∷ []) ∷ says (local t.Number 1)
+    ∷ sets (local t.Number 1) (num 7) ∷ []) ∷ []) ∷ [])

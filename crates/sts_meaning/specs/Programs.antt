@@ -1,42 +1,33 @@
 -- Small programs whose transcripts are known. Each has its text before it.
-use Rattle.std.specs.Prelude.{ℕ, pos, true, false, List, [], ◌∷◌, ◌++◌, Some, None}
+use Rattle.std.specs.Prelude.{ℕ, pos, true, false, List, [], ◌∷◌, ◌++◌, map, reverse, replicate, Some, None}
 use Rattle.sts_syntax.specs.declared.operators.TheConstants.{NEGATE, NOT, UNEQUAL, AT_MOST, ADD, MULTIPLY, DIVIDE, REMAINDER}
 use Rattle.sts_syntax.specs.declared.typed.Spot.TheVariants.{Local}
 use Rattle.sts_syntax.specs.declared.typed.Callee.TheVariants as c
 use Rattle.sts_syntax.specs.declared.board_calls.BoardCall.TheVariants as b
 use Rattle.sts_syntax.specs.Types as t
-use Rattle.sts_syntax.specs.Types.{ValueType}
 use Rattle.sts_syntax.specs.TypedTrees as e
 use Rattle.sts_syntax.specs.TypedTrees.{TypedTree, TypedStatement, TypedRoutine, ClassEntry, TypedProgram}
 use Rattle.board_world.specs.Observations.{ByteList}
-use Rattle.board_world.specs.Board.{Board, Down, Up, Entry, transcript_of, stats_of}
+use Rattle.board_world.specs.Board.{Down, Up, Entry, transcript_of, stats_of}
 use Rattle.sts_syntax.specs.Weights.{weight}
 use Rattle.sts_meaning.specs.Steps.{source_run}
-use Rattle.sts_meaning.specs.Forms.{args, num, param, local, global, binary, less, equal, board, call, handler, does, says, pauses, let_local, let_global, returns, function, plain, program, simple, class, numbers_type, list, item, repeated}
+use Rattle.sts_meaning.specs.Forms.{args, num, param, local, global, binary, equal, board, call, handler, does, says, pauses, let_local, let_global, returns, function, plain, program, simple, class, numbers_type, list, item, counts_to}
 
--- the board after n counted steps of a program without texts
-abbrev pub after : ℕ → TypedProgram → ℕ → List Entry → Board
-after n P until script = (source_run P [] until script n).board
-
--- what is written in n counted steps; the script has no entry and ends at 1000 ms
-abbrev pub written : ℕ → TypedProgram → ByteList
-written n P = transcript_of (after n P 1000 [])
-
--- the same on a script
+-- what is written in n counted steps of a program without texts, on a script that ends at a moment
 abbrev pub written_on : ℕ → TypedProgram → ℕ → List Entry → ByteList
-written_on n P until script = transcript_of (after n P until script)
+written_on n P until script = transcript_of (source_run P [] until script n).board
+
+-- the same where the script has no entry and ends at 1000 ms
+abbrev pub written : ℕ → TypedProgram → ByteList
+written n P = written_on n P 1000 []
 
 -- button A is down from one moment to another
 abbrev pub pressed : ℕ → ℕ → List Entry
 pressed from until = record { at = from; act = Down 1 } ∷ record { at = until; act = Up 1 } ∷ []
 
--- the same on an empty script that ends earlier
-abbrev pub written_until : ℕ → TypedProgram → ℕ → ByteList
-written_until n P until = transcript_of (after n P until [])
-
--- and the line of statistics behind it
+-- what is written then, and the line of statistics behind it
 abbrev pub counted : ℕ → TypedProgram → ByteList
-counted n P = (let end = after n P 1000 [] in transcript_of end ++ stats_of end)
+counted n P = (let end = (source_run P [] 1000 [] n).board in transcript_of end ++ stats_of end)
 
 -- serial.writeNumber(7 / 0); serial.writeNumber(-7 % 2)
 abbrev pub division : TypedProgram
@@ -105,9 +96,7 @@ abbrev pub seats : ℕ → TypedProgram
 seats n =
     simple (plain (does (board b.WaitForEvent (num 60 ∷ num 1 ∷ [])) ∷ []) ∷ plain (says (num 7) ∷ [])
     ∷ function [] (t.Number ∷ []) t.Nothing
-    (e.For (e.written (let_local 0 (num 0))) (Some (less (local t.Number 0) (num n)))
-    (Some (e.Bump t.Number (local t.Number 0) (pos 1) true))
-    (e.Block (e.also (does (board b.InBackground (handler 0 ∷ []))) e.done)) ∷ listens 61 1 1 ∷ raises 61 1 ∷ []) ∷ [])
+    (counts_to n (does (board b.InBackground (handler 0 ∷ [])) ∷ []) ∷ listens 61 1 1 ∷ raises 61 1 ∷ []) ∷ [])
 
 -- let a = [1, 2, 3]; serial.writeNumber(a[a.length])
 abbrev pub past_the_end : TypedProgram
@@ -137,12 +126,12 @@ abbrev pub at_once : ℕ → TypedProgram
 at_once n =
     simple (function [] (t.Number ∷ []) t.Nothing (let_local 0 (num 9) ∷ raises_now 80 1 ∷ says (local t.Number 0) ∷ [])
     ∷ plain (says (num 1) ∷ pauses 5 ∷ says (num 2) ∷ [])
-    ∷ plain (listens 80 1 1 ∷ repeated n (does (call t.Nothing 0 []))) ∷ [])
+    ∷ plain (listens 80 1 1 ∷ replicate n (does (call t.Nothing 0 []))) ∷ [])
 
 -- control.onEventFlags(81, 1, function () { let .., so many names; control.raiseNow(81, 1) }, EventFlags.Reentrant); control.raiseNow(81, 1)
 abbrev pub endless_raisers : ℕ → TypedProgram
 endless_raisers n =
-    simple (function [] (repeated n t.Number) t.Nothing (raises_now 81 1 ∷ [])
+    simple (function [] (replicate n t.Number) t.Nothing (raises_now 81 1 ∷ [])
     ∷ plain (does (board b.OnEventFlags (num 81 ∷ num 1 ∷ handler 0 ∷ num 8 ∷ [])) ∷ raises_now 81 1 ∷ []) ∷ [])
 
 -- control.onEventFlags(50, 0, function () { basic.pause(5); serial.writeNumber(control.eventValue()) }, mode)
@@ -180,12 +169,12 @@ filling classes functions made last =
 -- objects of 31 words: 90 of them take 2790 of the 2816 words of the arena
 abbrev pub many_objects : TypedProgram
 many_objects =
-    filling (class None (repeated 30 t.Number) [] 0 ∷ []) (function (t.Object 0 ∷ []) [] (t.Object 0) [] ∷ [])
+    filling (class None (replicate 30 t.Number) [] 0 ∷ []) (function (t.Object 0 ∷ []) [] (t.Object 0) [] ∷ [])
     (e.Make (t.Object 0) 0 e.none) 90
 
 -- arrays of 64 words: 44 of them take all 2816
 abbrev pub many_arrays : TypedProgram
-many_arrays = filling [] [] (list (repeated 60 (num 0))) 44
+many_arrays = filling [] [] (list (replicate 60 (num 0))) 44
 
 -- let a = [1]; a.push(2); a has a room of 4 then, and takes 5 and 4 words: 312 of them take 2808
 abbrev pub many_growths : TypedProgram
@@ -227,22 +216,16 @@ big_worker =
     (let x = global t.Number 0 in let done = global t.Number 1 in
     program [] (t.Number ∷ t.Number ∷ [])
     (function [] (t.Number ∷ []) t.Nothing
-    (e.For (e.written (let_local 0 (num 0))) (Some (less (local t.Number 0) (num 10)))
-    (Some (e.Bump t.Number (local t.Number 0) (pos 1) true))
-    (e.Block (e.also (does (e.Set t.Number None x (call t.Number 1 (x ∷ [])))) (e.also (pauses 1) e.done)))
+    (counts_to 10 (does (e.Set t.Number None x (call t.Number 1 (x ∷ []))) ∷ pauses 1 ∷ [])
     ∷ does (e.Set t.Number (Some ADD) done (num 1)) ∷ e.IfOnly (equal done (num 5))
     (e.Block (e.also (says x) e.done)) ∷ []) ∷ []))
 
 -- `blinking`, behind seven functions of a library
 abbrev pub library_and_blinking : TypedProgram
 library_and_blinking =
-    program (point ∷ []) [] (repeated 7 (plain []) ++ (plain (does (board b.Toggle (num 0 ∷ num 0 ∷ [])) ∷ [])
+    program (point ∷ []) [] (replicate 7 (plain []) ++ (plain (does (board b.Toggle (num 0 ∷ num 0 ∷ [])) ∷ [])
     ∷ plain (does (board b.Forever (handler 7 ∷ [])) ∷ []) ∷ []))
 
 -- the weights of a program's functions, the last one's first
-abbrev pub weights_from : List TypedRoutine → List ℕ → List ℕ
-weights_from [] before = before
-weights_from (r ∷ rest) before = weights_from rest (weight r ∷ before)
-
 abbrev pub weights : TypedProgram → List ℕ
-weights P = weights_from P.functions []
+weights P = reverse (map weight P.functions)

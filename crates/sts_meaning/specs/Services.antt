@@ -38,9 +38,8 @@ with_none r [] = Gives r
 with_none r (a ∷ rest) = Stuck
 
 abbrev pub with_one : (Value → Outcome Request) → List Value → Outcome Request
-with_one r [] = Stuck
 with_one r (a ∷ []) = r a
-with_one r (a ∷ (b ∷ rest)) = Stuck
+with_one r _ = Stuck
 
 abbrev pub with_two : (Value → Value → Outcome Request) → List Value → Outcome Request
 with_two r [] = Stuck

@@ -1,5 +1,5 @@
 -- The step of an activity, and the source of programs as a kind of activity.
-use Rattle.std.specs.Prelude.{ℕ, suc, ◌+◌, ◌-◌, pos, ◌+ℤ◌, Bool, false, if◌then◌else◌, ◌==◌, nat_lt, List, [], ◌∷◌, length, Option, Some, None}
+use Rattle.std.specs.Prelude.{ℕ, suc, ◌+◌, ◌-◌, pos, ◌+ℤ◌, Bool, false, if◌then◌else◌, ◌==◌, nat_lt, List, [], ◌∷◌, length, get_or, Option, Some, None}
 use Rattle.board_world.specs.declared.requests.Request.TheVariants.{Spawn}
 use Rattle.board_world.specs.Limits.{depth_limit}
 use Rattle.board_world.specs.Panics.{depth_panic}
@@ -15,11 +15,11 @@ use Rattle.sts_syntax.specs.TypedTrees.{TypedStatement, TypedRoutine, TypedProgr
 use Rattle.sts_syntax.specs.Measures.{frame_words, repeating_words, object_words, array_words}
 use Rattle.sts_syntax.specs.TypeRules.{entry}
 use Rattle.sts_syntax.specs.WellTypedPrograms.{is_maker}
-use Rattle.sts_meaning.specs.Values.{Value, Whole, Object, default, Outcome, then_gives, there, applied, applied_before, bumped, decided, map_of, to_int32}
+use Rattle.sts_meaning.specs.Values.{Value, Whole, Object, default, Outcome, then_gives, there, applied, applied_before, bumped, decided, to_int32}
 use Rattle.sts_meaning.specs.Heaps.{Fields, Items, Heap, with_cell, object_at, read_field, write_field, read_item, write_item, length_at, pushed, popped, next_item}
 use Rattle.sts_meaning.specs.Services.{code, requested}
 use Rattle.sts_meaning.specs.Continuation.{Continuation, Put, Get, Store, Drop, Unary, Apply, Choose, Both, Either, Read, Peek, Write, At, PeekAt, SetAt, Bump, BumpField, BumpAt, Measure, Push, Pop, Open, Append, New, Build, Invoke, Send, Ask, Repeat, Again, Each, Leave, Give, Round, Impossible, runs, runs_all, bare}
-use Rattle.sts_meaning.specs.Frames.{Names, Frame, Activity, Starts, Runs, stuck, after, grown, with_latest, with_two, with_three, taken, named, with_local, stored, defaults, first, answered, text_of, round}
+use Rattle.sts_meaning.specs.Frames.{Names, Frame, Activity, Starts, Runs, stuck, after, grown, with_latest, with_two, with_three, taken, named, with_local, stored, defaults, answered, round}
 
 -- An activity of a program with these texts.
 module _ (P : TypedProgram) (texts : List ByteList) where
@@ -43,7 +43,7 @@ module _ (P : TypedProgram) (texts : List ByteList) where
   abbrev pub entered : ℕ → TypedRoutine → List Value → Frame
   entered f r args = record {
     function = f;
-    names = record { params = map_of args; locals = λ i. default };
+    names = record { params = λ i. get_or args i default; locals = λ i. default };
     values = [];
     todo = body_of f r;
   }
@@ -103,7 +103,7 @@ module _ (P : TypedProgram) (texts : List ByteList) where
     -- Whoever asks the board for something goes on with the answer. Values go into arrays by words of their own.
     abbrev pub asker : Bool → List Value → Continuation → Asker Activity Heap
     asker answers vs k = record {
-      text = text_of texts;
+      text = λ n. get_or texts n [];
       glyph = glyph_of;
       push = λ array value. stuck;
       above = λ g. Starts g depth;
@@ -163,7 +163,7 @@ module _ (P : TypedProgram) (texts : List ByteList) where
     act (Invoke g m k) vs = after (taken m vs) (λ x. invoked heap base depth g x.0 (at x.1 k ∷ callers))
     act (Send s m k) vs =
         after (taken m vs) (λ x.
-        after (then_gives (first x.0) (λ o. method heap o s)) (λ g. invoked heap base depth g x.0 (at x.1 k ∷ callers)))
+        after (then_gives (there (entry x.0 0)) (λ o. method heap o s)) (λ g. invoked heap base depth g x.0 (at x.1 k ∷ callers)))
     act (Ask service m answers k) vs =
         after (taken m vs) (λ x. after (requested service x.0) (λ r. asked (asker answers x.1 k) r))
     act (Repeat k) vs =

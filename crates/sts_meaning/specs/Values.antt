@@ -1,5 +1,5 @@
 -- Values, and what operators make of them.
-use Rattle.std.specs.Prelude.{ℕ, zero, suc, ◌/◌, ◌%◌, ◌^◌, ℤ, pos, ◌+ℤ◌, ◌-ℤ◌, ◌*ℤ◌, int_lt, int_le, int_rem, Bool, true, false, not, if◌then◌else◌, nat_eq, ◌==◌, List, [], ◌∷◌, Option, Some, None}
+use Rattle.std.specs.Prelude.{ℕ, zero, ◌/◌, ◌%◌, ◌^◌, ℤ, pos, ◌+ℤ◌, ◌-ℤ◌, ◌*ℤ◌, int_lt, int_le, int_rem, Bool, true, false, not, if◌then◌else◌, nat_eq, ◌==◌, Option, Some, None}
 use Rattle.std.specs.Ordering.{int_eq}
 use Rattle.std.specs.Int.{int_wrap, int_bit_and, int_bit_or, int_bit_xor, int_bit_not, int_shl, int_shr, int_wrapping_div, cast_signed, cast_unsigned, w32}
 use Rattle.sts_syntax.specs.declared.operators.TheConstants.{NEGATE, PLUS, NOT, COMPLEMENT, BIT_OR, BIT_XOR, BIT_AND, EQUAL, UNEQUAL, LESS, GREATER, AT_MOST, AT_LEAST, SHIFT_LEFT, SHIFT_RIGHT, SHIFT_RIGHT_UNSIGNED, ADD, SUBTRACT, MULTIPLY, DIVIDE, REMAINDER}
@@ -137,18 +137,6 @@ bumped by late a =
 abbrev pub decided : Value → Outcome Bool
 decided a = then_gives (whole a) (λ x. Gives (not (int_eq x (pos 0))))
 
--- a list with one entry changed; one that isn't there isn't made
-abbrev pub changed : {X : Type 0} → List X → ℕ → X → List X
-changed [] i y = []
-changed (x ∷ xs) zero y = y ∷ xs
-changed (x ∷ xs) (suc i) y = x ∷ changed xs i y
-
 -- a map with one entry changed
 abbrev pub with_entry : {X : Type 0} → ℕ → X → (ℕ → X) → ℕ → X
 with_entry i v m j = if nat_eq j i then v else m j
-
--- the map of these values, with the default behind them
-abbrev pub map_of : List Value → ℕ → Value
-map_of [] i = default
-map_of (v ∷ vs) zero = v
-map_of (v ∷ vs) (suc i) = map_of vs i

@@ -10,10 +10,9 @@ ghost use Rattle.sts_syntax.specs.TypedTrees as e;
 ghost use Rattle.sts_syntax.specs.Weights.{weight};
 ghost use Rattle.sts_syntax.specs.Nodes.{text_weight};
 ghost use Rattle.sts_meaning.specs.Steps.{words, repeating};
-ghost use Rattle.sts_meaning.specs.Forms.{num, binary, less, board, call, send, handler, does, let_local, list, args};
-ghost use Rattle.sts_meaning.specs.Programs.{written, written_on, pressed, written_until, counted, division, blinking, deep_handlers, two_handlers, endless, seats, past_the_end, through_null, at_once, endless_raisers, busy, deepest, many_objects, many_arrays, many_growths, written_with, texts, questions, deep, presses, big_worker, library_and_blinking, weights};
+ghost use Rattle.sts_meaning.specs.Forms.{num, binary, less, board, call, send, handler, does, let_local, list, args, truths, steps, object, makes, name, bumps};
+ghost use Rattle.sts_meaning.specs.Programs.{written, written_on, pressed, counted, division, blinking, deep_handlers, two_handlers, endless, seats, past_the_end, through_null, at_once, endless_raisers, busy, deepest, many_objects, many_arrays, many_growths, written_with, texts, questions, deep, presses, big_worker, library_and_blinking, weights};
 ghost use Rattle.sts_meaning.specs.Orders.{item_set, set_each_time, item_set_past_the_end, item_added_past_the_end, item_taken_meanwhile, growing_list, list_evaluated_once, field_set_through_null, field_added_through_null, methods, constructors, early_stops, steps_of_a_name, unset, numbers_of_32_bits};
-ghost use Rattle.sts_meaning.specs.Counts.{steps, object, makes, truth, falsehood, name, bumps};
 
 /// Division by zero, signs, and 32 bits.
 pub fn rows_of_numbers()
@@ -27,7 +26,7 @@ pub fn rows_of_numbers()
 
 /// Handlers in order, seats, and activities that repeat.
 pub fn rows_of_activities()
-    ensures blinking { written_until 60 blinking 50 ≡ codes "0 display #..../...../...../...../.....\n20 display ...../...../...../...../.....\n40 display #..../...../...../...../.....\nend 50 script\n" }
+    ensures blinking { written_on 60 blinking 50 [] ≡ codes "0 display #..../...../...../...../.....\n20 display ...../...../...../...../.....\n40 display #..../...../...../...../.....\nend 50 script\n" }
     ensures deep_handlers { counted 120 deep_handlers
         ≡ codes "0 serial 313130\n5 serial 373231\nend 5 quiet\nstats spawned 1 blocked 1 words 25 seats 1\n" }
     ensures two_handlers { written 60 two_handlers ≡ codes "0 serial 32\n5 serial 31\nend 5 quiet\n" }
@@ -102,8 +101,8 @@ pub fn counted_steps_of_expressions()
     ensures literal { steps (does (num 1) ∷ []) ≡ 4 }
     ensures name { steps (does name ∷ []) ≡ 4 }
     ensures operator { steps (does (binary ADD (num 1) (num 2)) ∷ []) ≡ 6 }
-    ensures both { steps (does (e.Both t.Boolean truth falsehood) ∷ []) ≡ 6 }
-    ensures choice { steps (does (e.Choice t.Number truth (num 1) (num 2)) ∷ []) ≡ 6 }
+    ensures both { steps (does (e.Both t.Boolean (truths true) (truths false)) ∷ []) ≡ 6 }
+    ensures choice { steps (does (e.Choice t.Number (truths true) (num 1) (num 2)) ∷ []) ≡ 6 }
     ensures assignment { steps (does (e.Set t.Number None name (num 1)) ∷ []) ≡ 5 }
     ensures compound { steps (does (e.Set t.Number (Some ADD) name (num 1)) ∷ []) ≡ 7 }
     ensures bump { steps (bumps name ∷ []) ≡ 4 }
@@ -128,13 +127,13 @@ pub fn counted_steps_of_expressions()
 pub fn counted_steps_of_statements()
     ensures initialised { steps (let_local 0 (num 1) ∷ []) ≡ 5 }
     ensures declared { steps (e.Let false (record { name = Local 0; first = None } ∷ []) ∷ []) ≡ 5 }
-    ensures condition { steps (e.IfOnly truth e.Empty ∷ []) ≡ 5 }
+    ensures condition { steps (e.IfOnly (truths true) e.Empty ∷ []) ≡ 5 }
     ensures turns { steps (e.While (less name (num 1)) (bumps name) ∷ []) ≡ 13 }
     ensures repetition { steps (e.DoWhile (bumps name) (less name (num 1)) ∷ []) ≡ 8 }
     ensures bounded { steps
         (e.For e.omitted (Some (less name (num 2))) (Some (e.Bump t.Number name (pos 1) true)) e.Empty ∷ []) ≡ 19 }
     ensures items { steps (e.ForOf true (Local 0) (list (num 1 ∷ num 2 ∷ [])) e.Empty ∷ []) ≡ 14 }
-    ensures left { steps (e.While truth e.Break ∷ []) ≡ 6 }
+    ensures left { steps (e.While (truths true) e.Break ∷ []) ≡ 6 }
     ensures left_of_items { steps (e.ForOf true (Local 0) (list (num 1 ∷ num 2 ∷ [])) e.Continue ∷ []) ≡ 16 }
     ensures block { steps (e.Block e.done ∷ []) ≡ 3 }
 {}
