@@ -10,8 +10,8 @@ use Rattle.sts_meaning.specs.Continuation.{gives_value}
 use Rattle.flat_meaning.specs.Operators.{answers}
 use Rattle.sts_lower.specs.Code.{handler_of}
 use Rattle.lowered_code.specs.Fine.{FineGiven}
-use Rattle.lower_simulation.specs.Places.{Marks, IsProper}
-use Rattle.lower_simulation.proofs.Requests.{plain_1, plain_2, plain_3, plain_6, plain_7, plain_8, plain_9, plain_10, plain_11, plain_12, plain_13, plain_14, plain_15, plain_16, plain_17, plain_23, proper_4, proper_5, proper_22}
+use Rattle.lower_simulation.specs.Places.{Marks}
+use Rattle.lower_simulation.proofs.Requests.{AllProper, plain_1, plain_2, plain_3, plain_6, plain_7, plain_8, plain_9, plain_10, plain_11, plain_12, plain_13, plain_14, plain_15, plain_16, plain_17, plain_23, proper_4, proper_5, proper_22}
 
 -- a handler is known by its number
 abbrev pub mark : TypedTree → Option ℕ
@@ -50,7 +50,7 @@ module _ (functions : ℕ) (repeated : List ℕ) (params locals : ℕ) where
   abbrev pub RowFine : BoardAction → Bool → TypedTrees → Marks → Type 0
   RowFine (Service number places) gives args p =
       (number == 19 ≡ false) × (gives ≡ answers number)
-      × IsProper functions (onto (placed (λ n. None) places (marks args)) p) number (length (placed (λ n. None) places (marks args)))
+      × AllProper functions (onto (placed (λ n. None) places (marks args)) p) number (length (placed (λ n. None) places (marks args)))
   RowFine (Library f) gives args p = Unit {0}
   RowFine Repeats gives args p = marks args ≡ Some (handler_of args) ∷ []
 

@@ -16,9 +16,10 @@ use Rattle.sts_lower.specs.Sizes.{Target, ToName, ToField, ToItem, ToNothing, ta
 use Rattle.sts_lower.specs.Code as l
 use Rattle.sts_lower.specs.Code.{span, Part, handler_of, maker_of}
 use Rattle.lowered_code.specs.Fine.{IsThere, Fine, FineTarget, FineEach, FineGiven, FineAction}
-use Rattle.lower_simulation.specs.Places.{Marks, IsAbove, IsProper, HasAt, Near, Lies}
+use Rattle.lower_simulation.specs.Places.{Marks, IsAbove, HasAt, Near, Lies}
 use Rattle.lowered_code.proofs.Laws.{AreLong, sizes_of, parts_length, arguments_long, arguments_sizes, parts_sizes, code_length, parts_long, reach_length}
 use Rattle.lower_simulation.proofs.Boards.{mark, marks, onto, RowFine, row_fine}
+use Rattle.lower_simulation.proofs.Requests.{AllProper, properly}
 
 pub has_front : (fetch : ℕ → Option Op) (pc : ℕ) (a b : List Op) → HasAt fetch pc (a ++ b) → HasAt fetch pc a
 has_front fetch pc [] b h = tt
@@ -258,7 +259,7 @@ module _ (classes : List ClassEntry) (functions : ℕ) (repeating : ℕ → ℕ)
       let all = placed (l.number_part classes repeating params b) places qs in
       let ms = placed (λ n. None) places (marks args) in
       let h' = placed_at places fs qs (marks args) h in
-      let proper = subst (λ n. IsProper functions (onto ms p) number n) (marks_as_many todo all ms h') row.2 in
+      let proper = properly functions (onto ms p) number (length todo) (subst (λ n. AllProper functions (onto ms p) number n) (marks_as_many todo all ms h') row.2) in
       passed_at todo all ms h' long' pc p (Ask number (length todo) gives k) _ has
       (λ rest. (p, above_args todo all ms h' p, subst (λ n. fetch (pc + total (sizes_of all)) ≡ Some (o.Ask (b + length p) number (span (b + length p) n []))) (parts_as_many todo all ms h') rest.0, row.0, row.1, proper, near))
   board_at (Library f) gives args fs qs h long p row fine pc k long' has near = absurd fine

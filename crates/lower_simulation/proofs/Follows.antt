@@ -31,10 +31,12 @@ use Rattle.sts_lower.specs.Sizes.{ToName, ToField, ToItem, bump_size}
 use Rattle.sts_lower.specs.Code.{bump_code, get_op, set_op, bump_op, unbump_op, bumped_op, maker_of, span}
 use Rattle.sts_lower.specs.Lowered.{lowered, repeating, repeated_in_program, flat_class, flat_classes}
 use Rattle.lowered_code.specs.Fine.{IsThere, IsFine}
-use Rattle.lower_simulation.specs.Places.{Marks, Marked, IsAbove, IsProper, AllAmong, HasAt}
+use Rattle.lower_simulation.specs.Places.{Marks, Marked, IsAbove, IsProper, HasAt}
 use Rattle.std.specs.List.{AllZip}
-use Rattle.lower_simulation.specs.Tied.{Shows, CodeTied, fetched, LiesIn, NearIn, FrameTied, FrameWaits, Tied}
+use Rattle.lower_simulation.specs.Tied.{Shows, CodeTied, fetched, NearIn, FrameWaits, Tied}
+use Rattle.lower_simulation.proofs.Lying.{LiesIn, FrameTied}
 use Rattle.lower_simulation.specs.Limits.{limit, IsLight}
+use Rattle.lower_simulation.proofs.Requests.{AllAmong, all_among}
 use Rattle.lower_simulation.proofs.Statements.{statement_at, turn_at, each_at}
 use Rattle.lower_simulation.proofs.Temporaries.{entry_same, entry_other, shows_rest, shows_above, shows_put, shows_param, shows_local, Taking, takes, marked}
 use Rattle.lower_simulation.proofs.Functions.{maker_is, classes_agree, zeros_are}
@@ -248,7 +250,7 @@ module _ (P : TypedProgram) (texts : List ByteList) (fine : IsFine P) (weight : 
         → M used h (source.invoked P texts h base depth g args (record { function = f; names = n; values = rest; todo = k } ∷ callers)) (flat.called (lowered P) texts (forget h) base (fr j pc temps ∷ waiting) g args')
     call_matches g args args' q rest k pc temps same result shows near nf =
         let frame : Frame = record { function = f; names = n; values = rest; todo = k } in
-        let waits : FrameWaits P texts frame (fr j pc temps) = record { params = params; locals = locals; marks = q; words = deep; this = this; shows = shows; result = result; near = near } in
+        let waits : FrameWaits P texts frame (fr j pc temps) = record { frame = record { params = params; locals = locals; marks = q; words = deep; this = this; shows = shows; near = near }; result = result } in
         subst (λ xs. M used h (source.invoked P texts h base depth g args (frame ∷ callers)) (flat.called (lowered P) texts (forget h) base (fr j pc temps ∷ waiting) g xs)) (sym same)
         (called_matches P texts fine weight light used h base depth (frame ∷ callers) (fr j pc temps ∷ waiting) (waits, wait) deepness g args nf)
 
@@ -257,7 +259,7 @@ module _ (P : TypedProgram) (texts : List ByteList) (fine : IsFine P) (weight : 
         → M used h (source.ended P texts h base depth f v fs) (flat.ended (lowered P) texts (forget h) base waiting w bs)
     ended_matches v w e [] [] waits d = (record { each = λ i j code. (code, refl) }, record { shared = (refl, tt); others = λ a b x. x })
     ended_matches v w e (x ∷ fs) (y ∷ bs) waits d =
-        let caller = waits.0 in
+        let caller = waits.0.frame in
         let q = caller.marks in
         let t = caller.params + caller.locals + length q in
         let shown = shows_put caller.params caller.locals x.names None q v x.values y.temps tt caller.shows in
@@ -265,7 +267,7 @@ module _ (P : TypedProgram) (texts : List ByteList) (fine : IsFine P) (weight : 
         record { params = caller.params; locals = caller.locals; marks = None ∷ q; words = caller.words; this = caller.this; shows = shown; near = caller.near } in
         let lower : depth - source.words P texts f ≡ base + depth_of (lowered P) (y ∷ bs) = let dd = deep in omega arith in
         let a = Runs (record x { values = v ∷ x.values }) fs base (depth - source.words P texts f) in
-        subst (λ z. M used h (Goes a h) (after z (λ to. Goes (Stands (fr y.function (y.place + 1) (with_entry to w y.temps)) bs base) (forget h)))) (sym caller.result)
+        subst (λ z. M used h (Goes a h) (after z (λ to. Goes (Stands (fr y.function (y.place + 1) (with_entry to w y.temps)) bs base) (forget h)))) (sym waits.0.result)
         (subst (λ z. M used h (Goes a h) (Goes (Stands (fr y.function (y.place + 1) (with_entry t z y.temps)) bs base) (forget h))) (sym e)
         (going P texts weight light used h h (forget h) a (Stands (fr y.function (y.place + 1) (with_entry t v y.temps)) bs base) refl (tied, waits.1, refl, lower)))
     ended_matches v w e [] (y ∷ bs) waits d = absurd waits
@@ -565,7 +567,7 @@ module _ (P : TypedProgram) (texts : List ByteList) (fine : IsFine P) (weight : 
         alone (Ask service m gives k) vs pc temps op (omega arith) e
         (subst (λ u. M used h u (at_op (forget h) pc temps op)) (sym to)
         (subst (λ v. M used h turn v) (sym down)
-        (ask_matches (requested service t.these) gives q t.rest k pc temps (proper vs t.these t.rest (marked temps (params + locals) r vs shows.pending) t.taken) t.shows near)))
+        (ask_matches (requested service t.these) gives q t.rest k pc temps (all_among (length P.functions) (requested service t.these) (λ x asks. proper vs t.these t.rest x (marked temps (params + locals) r vs shows.pending) t.taken asks)) t.shows near)))
 
     -- one counted step, of what is left to do and lies at the frame's place
     act_follows : (k : Continuation) (p : Marks) (vs : List Value) (pc : ℕ) (temps : ℕ → Value) → Sh n p vs temps → LiesIn P texts f j params locals k pc p → NoFault (sact k vs) → Mk 488 used h (sact k vs) (here pc temps) (forget h)
@@ -660,7 +662,7 @@ module _ (P : TypedProgram) (texts : List ByteList) (fine : IsFine P) (weight : 
         subst (λ w. Mk 488 used h (sact (Repeat k) (w ∷ vs)) (here pc temps) (forget h)) (sym shows.pending.1)
         (wide 400 488 _ _ _ (omega arith) (repeat_follows g q v vs k pc temps lies.0 lies.1 lies.2 lies.3 shows))
     act_follows (Again loop k) p vs pc temps shows lies nf =
-        let back = turn_at P.classes (length P.functions) (repeating P) (repeated_in_program P) params locals (fetched P texts j) (is_maker P.classes f) this loop lies.1 lies.4 k lies.3 lies.5 lies.6 in
+        let back = turn_at P.classes (length P.functions) (repeating P) (repeated_in_program P) params locals (fetched P texts j) (is_maker P.classes f) this loop lies.1 lies.5 k lies.3 lies.4 lies.6 lies.7 in
         alone (Again loop k) vs pc temps (o.Jump lies.1) (omega arith) lies.2
         (goes n [] vs (runs (is_maker P.classes f) loop k k k) lies.1 temps h (forget h) refl (subst (λ q. Sh n q vs temps) lies.0 shows) (inl back))
     act_follows (Each i a k) p vs pc temps shows lies nf =

@@ -23,16 +23,18 @@ use Rattle.flat_meaning.specs.Operators.{prefixed_by}
 use Rattle.flat_meaning.specs.Frames.{FlatFrame, FlatActivity, Stands, words, depth_of}
 use Rattle.flat_meaning.specs.Steps as flat
 use Rattle.sts_lower.specs.Sizes.{item_size}
-use Rattle.sts_lower.specs.Lowered.{lowered, repeating, repeated_in_program}
+use Rattle.sts_lower.specs.Lowered.{lowered, repeating}
 use Rattle.lowered_code.specs.Fine.{IsFine}
-use Rattle.lower_simulation.specs.Places.{Marks, HasAt, each_code}
+use Rattle.lower_simulation.specs.Places.{Marks, HasAt}
 use Rattle.std.specs.List.{AllZip}
-use Rattle.lower_simulation.specs.Tied.{Shows, fetched, LiesIn, NearIn, FrameWaits}
+use Rattle.lower_simulation.specs.Tied.{Shows, fetched, NearIn, FrameWaits}
+use Rattle.lower_simulation.proofs.Lying.{LiesIn}
 use Rattle.lower_simulation.specs.Limits.{IsLight}
 use Rattle.lower_simulation.proofs.Temporaries.{entry_same, entry_other, shows_above, shows_local}
 use Rattle.lowered_code.proofs.Laws.{entry_within}
 use Rattle.lower_simulation.proofs.Turns.{Match, going, Makes, within, same_turn, same_fault, last_op, then_ops, then_after}
 use Rattle.lower_simulation.proofs.Operators.{after_then, below_true, below_false, negative_true, agree_with, entry_none}
+use Rattle.lower_simulation.proofs.Statements.{each_code}
 
 module _ (P : TypedProgram) (texts : List ByteList) (fine : IsFine P) (weight : FlatActivity → FlatHeap → ℕ) (light : IsLight (lowered P) weight) where
   abbrev M : ℕ → Heap → Turn Activity Heap → Turn FlatActivity FlatHeap → Type 0
@@ -85,7 +87,7 @@ module _ (P : TypedProgram) (texts : List ByteList) (fine : IsFine P) (weight : 
 
     -- a turn of a loop over items, or its end
     module _ (i : ℕ) (a : TypedStatement) (k : Continuation) (vs : List Value) (pc next : ℕ) (temps : ℕ → Value) (shows : Sh n [] vs temps) (name : suc (suc i) < locals)
-        (has : HasAt fetch pc (each_code P.classes (length P.functions) (repeating P) (repeated_in_program P) params locals (fetched P texts j) (is_maker P.classes f) i a pc next))
+        (has : HasAt fetch pc (each_code P.classes (repeating P) params locals (is_maker P.classes f) i a pc next))
         (there : LiesIn P texts f j params locals k next []) (near : By (runs (is_maker P.classes f) a k (Each i a k) (Each i a k)) (pc + item_size) []) where
       abbrev d : ℕ
       d = params + locals + 0

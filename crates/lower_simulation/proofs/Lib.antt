@@ -1,3 +1,4 @@
+mod Lying
 mod Requests
 mod Boards
 mod Expressions

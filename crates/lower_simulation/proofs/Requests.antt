@@ -1,12 +1,37 @@
 -- Which services ask for something with a function of the program.
-use Rattle.std.proofs.Common.{◌≡◌, ℕ, ◌<◌, List, [], ◌∷◌, Option, Some, sym, ap, subst}
+use Rattle.std.proofs.Common.{◌≡◌, ℕ, ◌<◌, List, [], ◌∷◌, Option, Some, refl, sym, ap, subst}
 use Rattle.std.specs.Prelude.{ℤ}
+use Rattle.std.specs.List.{AllZip}
 use Rattle.board_world.specs.declared.requests.Request.{Request}
 use Rattle.board_world.specs.declared.requests.Request.TheVariants.{Pause, Wait, Raise, RaiseNow, Plot, Show, WriteNumber, WriteText, PinWrite, Radio, Time, EventValue, Button, TextGlyph, NumberGlyph, Panic}
 use Rattle.board_world.specs.Rules.{queues_if_busy}
 use Rattle.sts_meaning.specs.Values.{Value, Whole, Code, Outcome, Gives, Breaks, Stuck, then_gives, whole}
+use Rattle.sts_meaning.specs.Frames.{taken}
 use Rattle.sts_meaning.specs.Services.{requested, text, code, mode, event, with_none, with_one, with_two, with_three, of_one, of_two, of_event, of_listener}
-use Rattle.lower_simulation.specs.Places.{Marks, NamesAmong, AllAmong, IsProper}
+use Rattle.lower_simulation.specs.Places.{Marks, Marked, NamesAmong, IsProper}
+
+abbrev pub AllAmong : ℕ → Outcome Request → Type 0
+AllAmong functions (Gives r) = NamesAmong functions r
+AllAmong functions _ = Unit {0}
+
+-- each request of a service names a function of the program, if any
+abbrev pub AllProper : ℕ → Marks → (service n : ℕ) → Type 0
+AllProper functions p service n =
+    (vs : List Value) (these rest : List Value) → AllZip Marked p vs → taken n vs ≡ Gives (these, rest)
+    → AllAmong functions (requested service these)
+
+given_names : (functions : ℕ) (o : Outcome Request) → AllAmong functions o → (r : Request) → o ≡ Gives r → NamesAmong functions r
+given_names functions (Gives q) h r e = (let same : q ≡ r = cc in subst (NamesAmong functions) same h)
+given_names functions (Breaks code) h r e = cc
+given_names functions Stuck h r e = cc
+
+pub all_among : (functions : ℕ) (o : Outcome Request) → ((r : Request) → o ≡ Gives r → NamesAmong functions r) → AllAmong functions o
+all_among functions (Gives r) f = f r refl
+all_among functions (Breaks code) f = tt
+all_among functions Stuck f = tt
+
+pub properly : (functions : ℕ) (p : Marks) (service n : ℕ) → AllProper functions p service n → IsProper functions p service n
+properly functions p service n all vs these rest r marked e asks = given_names functions (requested service these) (all vs these rest marked e) r asks
 
 module _ (n : ℕ) where
   among_then : {X : Type 0} (o : Outcome X) (f : X → Outcome Request) → ((x : X) → AllAmong n (f x)) → AllAmong n (then_gives o f)
@@ -104,14 +129,14 @@ module _ (n : ℕ) where
   listens : (a b m : Value) (f : ℕ) → f < n → AllAmong n (of_listener a b (Code f) m)
   listens a b m f lt = among_then (whole a) _ (λ x. among_then (whole b) _ (λ y. among_then (whole m) _ (λ z. lt)))
 
-  pub proper_4 : (f : ℕ) → f < n → (p : Marks) → IsProper n (Some f ∷ p) 4 1
+  pub proper_4 : (f : ℕ) → f < n → (p : Marks) → AllProper n (Some f ∷ p) 4 1
   unfolding these_of
   proper_4 f lt p [] these rest marked e = absurd marked
   proper_4 f lt p (v ∷ vs) these rest marked e =
       let is : v ∷ [] ≡ these = ap these_of e in
       subst (Asked 4) is (subst (λ (w : Value). Asked 4 (w ∷ [])) (sym marked.0) lt)
 
-  pub proper_5 : (f : ℕ) → f < n → (m o : Option ℕ) (p : Marks) → IsProper n (Some f ∷ (m ∷ (o ∷ p))) 5 3
+  pub proper_5 : (f : ℕ) → f < n → (m o : Option ℕ) (p : Marks) → AllProper n (Some f ∷ (m ∷ (o ∷ p))) 5 3
   unfolding these_of
   proper_5 f lt m o p [] these rest marked e = absurd marked
   proper_5 f lt m o p (v ∷ []) these rest marked e = absurd marked.1
@@ -120,7 +145,7 @@ module _ (n : ℕ) where
       let is : x ∷ (w ∷ (v ∷ [])) ≡ these = ap these_of e in
       subst (Asked 5) is (subst (λ (h : Value). Asked 5 (x ∷ (w ∷ (h ∷ [])))) (sym marked.0) (listens x w (Whole queues_if_busy) f lt))
 
-  pub proper_22 : (f : ℕ) → f < n → (l m o : Option ℕ) (p : Marks) → IsProper n (l ∷ (Some f ∷ (m ∷ (o ∷ p)))) 22 4
+  pub proper_22 : (f : ℕ) → f < n → (l m o : Option ℕ) (p : Marks) → AllProper n (l ∷ (Some f ∷ (m ∷ (o ∷ p)))) 22 4
   unfolding these_of
   proper_22 f lt l m o p [] these rest marked e = absurd marked
   proper_22 f lt l m o p (u ∷ []) these rest marked e = absurd marked.1

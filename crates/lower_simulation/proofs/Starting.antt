@@ -23,9 +23,10 @@ use Rattle.sts_lower.specs.Lowered.{lowered, lowered_routine, repeating, repeate
 use Rattle.lowered_code.specs.Fine.{IsFine}
 use Rattle.lower_simulation.specs.Places.{HasAt}
 use Rattle.std.specs.List.{AllZip}
-use Rattle.lower_simulation.specs.Tied.{Shows, CodeTied, fetched, LiesIn, FrameTied, FrameWaits}
+use Rattle.lower_simulation.specs.Tied.{Shows, CodeTied, fetched, FrameWaits}
+use Rattle.lower_simulation.proofs.Lying.{LiesIn, FrameTied}
 use Rattle.lower_simulation.specs.Limits.{IsLight}
-use Rattle.lower_simulation.proofs.Requests.{plain_2}
+use Rattle.lower_simulation.proofs.Requests.{properly, plain_2}
 use Rattle.lower_simulation.proofs.Statements.{body_at}
 use Rattle.lower_simulation.proofs.Temporaries.{map_past}
 use Rattle.lower_simulation.proofs.Functions.{exactly_is, has_all, routine_there, repeating_there, routine_words, repeating_frames}
@@ -55,7 +56,7 @@ module _ (P : TypedProgram) (texts : List ByteList) (fine : IsFine P) (weight : 
   pub round_lies : (f j g : ℕ) → HasAt (fetched P texts j) 0 (repeating_ops g) → LiesIn P texts f j 0 0 (round g) 0 []
   round_lies f j g has =
       let last : LiesIn P texts f j 0 0 (Drop (Round g)) 3 (None ∷ []) = (refl, refl, refl, has.1.1.1.0, has) in
-      let ask : LiesIn P texts f j 0 0 (Ask 2 1 false (Drop (Round g))) 2 (None ∷ []) = ([], (None, refl), has.1.1.0, refl, refl, λ vs these rest marked e. plain_2 (length P.functions) these, inl last) in
+      let ask : LiesIn P texts f j 0 0 (Ask 2 1 false (Drop (Round g))) 2 (None ∷ []) = ([], (None, refl), has.1.1.0, refl, refl, properly (length P.functions) (None ∷ []) 2 1 (λ vs these rest marked e. plain_2 (length P.functions) these), inl last) in
       let put : LiesIn P texts f j 0 0 (Drop (Put (Whole (pos 20)) (Ask 2 1 false (Drop (Round g))))) 1 (None ∷ []) = (has.1.0, inl ask) in
       ([], refl, has.0, inl put)
 

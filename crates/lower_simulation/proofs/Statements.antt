@@ -1,6 +1,7 @@
 -- A statement's code does what is left to do in it and behind it.
 use Rattle.std.proofs.Common.{◌≡◌, ℕ, zero, suc, ◌+◌, ◌<◌, inl, inr, List, [], ◌∷◌, ◌++◌, length, Option, Some, None, Bool, true, false, refl, sym, ◌∙◌, subst, arith}
 use Rattle.flat_ir.specs.declared.ops.Op.{Op}
+use Rattle.flat_ir.specs.declared.ops.Op.TheVariants.{Jump}
 use Rattle.sts_syntax.specs.declared.typed.Spot.TheVariants.{Param, Local, Global}
 use Rattle.sts_syntax.specs.TypedTrees as e
 use Rattle.sts_syntax.specs.TypedTrees.{TypedTree, TypedTrees, TypedStatement, TypedStatements, OptionalTypedStatement, TypedDeclaration, ClassEntry}
@@ -11,9 +12,26 @@ use Rattle.sts_lower.specs.Code as l
 use Rattle.sts_lower.specs.Statements as s
 use Rattle.sts_lower.specs.Statements.{behind, bare_code, return_code}
 use Rattle.lowered_code.specs.Fine.{Fine, FineOption, FineDeclared, FineStatement, FineFirst, FineStatements}
-use Rattle.lower_simulation.specs.Places.{Marks, HasAt, FineTurn, loop_code, for_code, each_code}
+use Rattle.lower_simulation.specs.Places.{Marks, HasAt, TurnsBack}
 use Rattle.lowered_code.proofs.Laws.{size_positive, code_length, test_length, step_length, statement_length, first_length, statements_length}
 use Rattle.lower_simulation.proofs.Expressions.{has_front, has_after, LiesAt, IsNear, near_at, ExprAt, expr_at}
+
+module _ (classes : List ClassEntry) (repeating : ℕ → ℕ) (params locals : ℕ) (maker : Bool) where
+  -- the code of a `for` behind its head's first part
+  abbrev pub for_code : Option TypedTree → Option TypedTree → TypedStatement → (at next : ℕ) → List Op
+  for_code test step a at next =
+      (let body = at + test_size test in
+      let turn = body + statement_size maker a in
+      s.test_code classes repeating params (params + locals) test at next
+      ++ (s.statement_code classes repeating params (params + locals) maker a body turn next turn
+      ++ (s.step_code classes repeating params (params + locals) step turn ++ Jump at ∷ [])))
+
+  -- the code of a loop over items, at its turn
+  abbrev pub each_code : ℕ → TypedStatement → (at next : ℕ) → List Op
+  each_code i a at next =
+      s.item_code classes repeating params (params + locals) i at next
+      ++ (s.statement_code classes repeating params (params + locals) maker a (at + item_size) at next at
+      ++ Jump at ∷ [])
 
 module _ (classes : List ClassEntry) (functions : ℕ) (repeating : ℕ → ℕ) (repeated : List ℕ) (params locals : ℕ) (fetch : ℕ → Option Op) (maker : Bool) (this : maker ≡ true → 0 < params) where
   abbrev pub b : ℕ
@@ -109,7 +127,7 @@ module _ (classes : List ClassEntry) (functions : ℕ) (repeating : ℕ → ℕ)
 
   -- a turn of each kind of loop, from its code and that of its body
   pub while_at : (test : TypedTree) (a : TypedStatement) → Fine functions repeated params locals test → FineStatement functions repeated params locals a → StatementAt a → (pc next : ℕ) (k : Continuation)
-      → HasAt fetch pc (loop_code classes functions repeating repeated params locals fetch maker (e.While test a) pc next) → At k next [] → At (runs maker (e.While test a) k k k) pc []
+      → HasAt fetch pc (sc (e.While test a) pc next next next) → At k next [] → At (runs maker (e.While test a) k k k) pc []
   while_at test a ft fa body pc next k has there =
       let pt = pc + size test in
       let pb = pt + 1 + 1 in
@@ -117,19 +135,19 @@ module _ (classes : List ClassEntry) (functions : ℕ) (repeating : ℕ → ℕ)
       let turn = Again (e.While test a) k in
       let has_t = has_after fetch pc (size test) (l.code classes repeating params b test 0 pc pt) _ (code_length classes repeating params b test 0 pc pt) has in
       let has_j = has_after fetch pb (statement_size maker a) (sc a pb pj next pj) _ (statement_length classes repeating params b maker a pb pj next pj) has_t.1.1 in
-      let at_j : At turn pj [] = (refl, pc, has_j.0, (ft, fa), next, has, there) in
+      let at_j : At turn pj [] = (refl, pc, has_j.0, tt, (ft, fa), next, has, there) in
       let at_b = at_ready (statement_size maker a) _ turn pb (body.at pb pj next pj k turn turn (has_front fetch pb _ _ has_t.1.1) there at_j at_j (inl at_j)) at_j in
       let at_t : At (Choose (runs maker a k turn turn) k) pt (None ∷ []) = (pb, has_t.0, inl at_b, inr (next, has_t.1.0, there)) in
       (expr test ft).at pc pt [] (Choose (runs maker a k turn turn) k) (has_front fetch pc _ _ has) at_t (inl at_t)
 
   pub do_at : (a : TypedStatement) (test : TypedTree) → Fine functions repeated params locals test → FineStatement functions repeated params locals a → StatementAt a → (pc next : ℕ) (k : Continuation)
-      → HasAt fetch pc (loop_code classes functions repeating repeated params locals fetch maker (e.DoWhile a test) pc next) → At k next [] → At (runs maker (e.DoWhile a test) k k k) pc []
+      → HasAt fetch pc (sc (e.DoWhile a test) pc next next next) → At k next [] → At (runs maker (e.DoWhile a test) k k k) pc []
   do_at a test ft fa body pc next k has there =
       let pe = pc + statement_size maker a in
       let pt = pe + size test in
       let has_e = has_after fetch pc (statement_size maker a) (sc a pc pe next pe) _ (statement_length classes repeating params b maker a pc pe next pe) has in
       let has_t = has_after fetch pe (size test) (l.code classes repeating params b test 0 pe pt) _ (code_length classes repeating params b test 0 pe pt) has_e in
-      let at_j : At (Again (e.DoWhile a test) k) (pt + 1 + 1) [] = (refl, pc, has_t.1.1.0, (fa, ft), next, has, there) in
+      let at_j : At (Again (e.DoWhile a test) k) (pt + 1 + 1) [] = (refl, pc, has_t.1.1.0, tt, (fa, ft), next, has, there) in
       let at_t : At (Choose (Again (e.DoWhile a test) k) k) pt (None ∷ []) = (pt + 1 + 1, has_t.0, inl at_j, inr (next, has_t.1.0, there)) in
       let turn = evals test (Choose (Again (e.DoWhile a test) k) k) in
       let at_e : At turn pe [] = (expr test ft).at pe pt [] (Choose (Again (e.DoWhile a test) k) k) (has_front fetch pe _ _ has_e) at_t (inl at_t) in
@@ -149,7 +167,7 @@ module _ (classes : List ClassEntry) (functions : ℕ) (repeating : ℕ → ℕ)
       (expr a fine).at pc pt [] (Choose so k) (has_front fetch pc _ _ has) at_t (inl at_t)
 
   pub for_at : (test step : Option TypedTree) (a : TypedStatement) → FineOption functions repeated params locals test → FineOption functions repeated params locals step → FineStatement functions repeated params locals a → StatementAt a → (pc next : ℕ) (k : Continuation)
-      → HasAt fetch pc (for_code classes functions repeating repeated params locals fetch maker test step a pc next) → At k next [] → At (runs maker (e.For e.omitted test step a) k k k) pc []
+      → HasAt fetch pc (for_code classes repeating params locals maker test step a pc next) → At k next [] → At (runs maker (e.For e.omitted test step a) k k k) pc []
   for_at test step a ft fs fa body pc next k has there =
       let pb = pc + test_size test in
       let pt = pb + statement_size maker a in
@@ -157,14 +175,16 @@ module _ (classes : List ClassEntry) (functions : ℕ) (repeating : ℕ → ℕ)
       let has_t = has_after fetch pb (statement_size maker a) (sc a pb pt next pt) _ (statement_length classes repeating params b maker a pb pt next pt) has_b in
       let has_j = has_after fetch pt (step_size step) (s.step_code classes repeating params b step pt) _ (step_length classes repeating params b step pt) has_t in
       let loop = Again (e.For e.omitted test step a) k in
-      let at_j : At loop (pt + step_size step) [] = (refl, pc, has_j.0, (ft, fs, fa), next, has, there) in
+      let same : pc + 0 ≡ pc = omega arith in
+      let whole : HasAt fetch pc (sc (e.For e.omitted test step a) pc next next next) = subst (λ at. HasAt fetch pc (for_code classes repeating params locals maker test step a at next)) (sym same) has in
+      let at_j : At loop (pt + step_size step) [] = (refl, pc, has_j.0, tt, (tt, ft, fs, fa), next, whole, there) in
       let turn = steps step loop in
       let at_t = steps_at step fs pt loop (has_front fetch pt _ _ has_t) at_j in
       let at_b = at_ready (statement_size maker a) _ turn pb (body.at pb pt next pt k turn turn (has_front fetch pb _ _ has_b) there at_t at_t (inl at_t)) at_t in
       tests_at test ft pc next (runs maker a k turn turn) k (has_front fetch pc _ _ has) at_b there
 
   -- the body of a loop over items, from the loop's code
-  pub each_at : (i : ℕ) (a : TypedStatement) → StatementAt a → (pc next : ℕ) (k : Continuation) → At (Each i a k) pc [] → HasAt fetch pc (each_code classes functions repeating repeated params locals fetch maker i a pc next) → At k next []
+  pub each_at : (i : ℕ) (a : TypedStatement) → StatementAt a → (pc next : ℕ) (k : Continuation) → At (Each i a k) pc [] → HasAt fetch pc (each_code classes repeating params locals maker i a pc next) → At k next []
       → By (runs maker a k (Each i a k) (Each i a k)) (pc + item_size) []
   each_at i a body pc next k turn has there =
       let pb = pc + item_size in
@@ -268,12 +288,14 @@ module _ (classes : List ClassEntry) (functions : ℕ) (repeating : ℕ → ℕ)
         ready_both (statement_size maker a) (statements_size maker rest) _ _ _ pc at_a at_r
 
   -- a loop that turns back
-  pub turn_at : (loop : TypedStatement) (pc next : ℕ) (k : Continuation) → FineTurn classes functions repeating repeated params locals fetch maker loop
-      → HasAt fetch pc (loop_code classes functions repeating repeated params locals fetch maker loop pc next) → At k next [] → At (runs maker loop k k k) pc []
-  turn_at (e.While test a) pc next k fine has there = while_at test a fine.0 fine.1 (statement_at a fine.1) pc next k has there
-  turn_at (e.DoWhile a test) pc next k fine has there = do_at a test fine.1 fine.0 (statement_at a fine.0) pc next k has there
-  turn_at (e.For e.omitted test step a) pc next k fine has there = for_at test step a fine.0 fine.1 fine.2 (statement_at a fine.2) pc next k has there
-  turn_at loop pc next k fine has there = absurd fine
+  pub turn_at : (loop : TypedStatement) (pc next : ℕ) (k : Continuation) → TurnsBack loop → FineStatement functions repeated params locals loop
+      → HasAt fetch pc (sc loop pc next next next) → At k next [] → At (runs maker loop k k k) pc []
+  turn_at (e.While test a) pc next k turns fine has there = while_at test a fine.0 fine.1 (statement_at a fine.1) pc next k has there
+  turn_at (e.DoWhile a test) pc next k turns fine has there = do_at a test fine.1 fine.0 (statement_at a fine.0) pc next k has there
+  turn_at (e.For e.omitted test step a) pc next k turns fine has there =
+      let same : pc + 0 ≡ pc = omega arith in
+      for_at test step a fine.1 fine.2 fine.3 (statement_at a fine.3) pc next k (subst (λ at. HasAt fetch pc (for_code classes repeating params locals maker test step a at next)) same has) there
+  turn_at loop pc next k turns fine has there = absurd turns
 
   -- the statements of a function, and then running off its end
   pub body_at : (all : TypedStatements) → FineStatements functions repeated params locals all

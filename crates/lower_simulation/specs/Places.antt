@@ -9,18 +9,18 @@ use Rattle.flat_ir.specs.declared.ops.Op.TheVariants as o
 use Rattle.sts_syntax.specs.declared.typed.Spot.{Spot}
 use Rattle.sts_syntax.specs.declared.typed.Spot.TheVariants.{Local}
 use Rattle.sts_syntax.specs.TypedTrees as e
-use Rattle.sts_syntax.specs.TypedTrees.{TypedTree, TypedStatement, ClassEntry}
+use Rattle.sts_syntax.specs.TypedTrees.{TypedStatement, ClassEntry}
 use Rattle.sts_syntax.specs.TypeRules.{IsOneOf, IsOne}
-use Rattle.sts_meaning.specs.Values.{Value, Whole, Object, Text, Code, Outcome, Gives}
+use Rattle.sts_meaning.specs.Values.{Value, Whole, Object, Text, Code, Gives}
 use Rattle.sts_meaning.specs.Services.{requested}
 use Rattle.sts_meaning.specs.Frames.{taken}
 use Rattle.sts_meaning.specs.Continuation.{Continuation, Put, Get, Store, Drop, Unary, Apply, Choose, Both, Either, Read, Peek, Write, At, PeekAt, SetAt, Bump, BumpField, BumpAt, Measure, Push, Pop, Open, Append, New, Build, Invoke, Send, Ask, Repeat, Again, Each, Leave, Give, Round, Impossible}
 use Rattle.flat_meaning.specs.Operators.{answers}
-use Rattle.sts_lower.specs.Sizes.{ToName, ToField, ToItem, bump_size, test_size, item_size, statement_size}
+use Rattle.sts_lower.specs.Sizes.{ToName, ToField, ToItem, bump_size, item_size}
 use Rattle.sts_lower.specs.Code.{get_op, set_op, bump_code, maker_of, span}
-use Rattle.sts_lower.specs.Statements.{statement_code, test_code, step_code, item_code}
+use Rattle.sts_lower.specs.Statements.{statement_code, item_code}
 use Rattle.sts_lower.specs.Lowered.{repeating_ops}
-use Rattle.lowered_code.specs.Fine.{IsThere, Fine, FineOption, FineStatement}
+use Rattle.lowered_code.specs.Fine.{IsThere, FineStatement}
 
 -- What is known of each pending value, the latest first: that it is a function, by its number, or nothing.
 abbrev pub Marks : Type 0
@@ -41,15 +41,11 @@ NamesAmong functions (Spawn f) = f < functions
 NamesAmong functions (Listen l) = l.handler < functions
 NamesAmong functions r = Unit {0}
 
-abbrev pub AllAmong : ℕ → Outcome Request → Type 0
-AllAmong functions (Gives r) = NamesAmong functions r
-AllAmong functions _ = Unit {0}
-
 -- so does each request of a service with the n latest of values that are marked so
 abbrev pub IsProper : ℕ → Marks → (service n : ℕ) → Type 0
 IsProper functions p service n =
-    (vs : List Value) (these rest : List Value) → AllZip Marked p vs → taken n vs ≡ Gives (these, rest)
-    → AllAmong functions (requested service these)
+    (vs these rest : List Value) (r : Request) → AllZip Marked p vs → taken n vs ≡ Gives (these, rest)
+    → requested service these ≡ Gives r → NamesAmong functions r
 
 -- the op that gives a value
 abbrev pub IsPut : Value → ℕ → Option Op → Type 0
@@ -82,6 +78,13 @@ KnownAs R _ = ⊥
 abbrev pub HasAt : (ℕ → Option Op) → ℕ → List Op → Type 0
 HasAt fetch pc [] = Unit {0}
 HasAt fetch pc (op ∷ ops) = (fetch pc ≡ Some op) × HasAt fetch (pc + 1) ops
+
+-- a loop that turns back, which has no first part any more
+abbrev pub TurnsBack : TypedStatement → Type 0
+TurnsBack (e.While test a) = Unit {0}
+TurnsBack (e.DoWhile a test) = Unit {0}
+TurnsBack (e.For e.omitted test step a) = Unit {0}
+TurnsBack _ = ⊥
 
 -- Of a program: its classes, how many functions it has, the number of the function that repeats the calls of another
 -- one, and those for which there is one. Of a function: how many parameters and locals it has, its ops, and whether it
@@ -116,41 +119,6 @@ module _ (classes : List ClassEntry) (functions : ℕ) (repeating : ℕ → ℕ)
 
   abbrev pub IsName : Spot → Type 0
   IsName x = IsThere functions repeated params locals x
-
-  -- the code of a `for` behind its head's first part
-  abbrev pub for_code : Option TypedTree → Option TypedTree → TypedStatement → (at next : ℕ) → List Op
-  for_code test step a at next =
-      (let body = at + test_size test in
-      let turn = body + statement_size maker a in
-      test_code classes repeating params base test at next
-      ++ (statement_code classes repeating params base maker a body turn next turn
-      ++ (step_code classes repeating params base step turn ++ o.Jump at ∷ [])))
-
-  -- the code of a loop at the place at which it turns back, and what lowering needs of it
-  abbrev pub loop_code : TypedStatement → (at next : ℕ) → List Op
-  loop_code (e.While test a) at next =
-      statement_code classes repeating params base maker (e.While test a) at next next next
-  loop_code (e.DoWhile a test) at next =
-      statement_code classes repeating params base maker (e.DoWhile a test) at next next next
-  loop_code (e.For e.omitted test step a) at next = for_code test step a at next
-  loop_code s at next = []
-
-  abbrev pub FineTurn : TypedStatement → Type 0
-  FineTurn (e.While test a) =
-      Fine functions repeated params locals test × FineStatement functions repeated params locals a
-  FineTurn (e.DoWhile a test) =
-      FineStatement functions repeated params locals a × Fine functions repeated params locals test
-  FineTurn (e.For e.omitted test step a) =
-      FineOption functions repeated params locals test × FineOption functions repeated params locals step
-      × FineStatement functions repeated params locals a
-  FineTurn s = ⊥
-
-  -- the code of a loop over items, at its turn
-  abbrev pub each_code : ℕ → TypedStatement → (at next : ℕ) → List Op
-  each_code i a at next =
-      item_code classes repeating params base i at next
-      ++ (statement_code classes repeating params base maker a (at + item_size) at next at
-      ++ o.Jump at ∷ [])
 
   abbrev mutual
     -- what is left to do lies at a place, with such values pending
@@ -215,11 +183,14 @@ module _ (classes : List ClassEntry) (functions : ℕ) (repeating : ℕ → ℕ)
         × Fetches (pc + 1) (o.Ask (height q) 4 (height q ∷ []))
         × Near (Lies k) (pc + 1 + 1) (None ∷ q)) p
     Lies (Again loop k) pc p =
-        (p ≡ []) × (t : ℕ) × Fetches pc (o.Jump t) × FineTurn loop × (next : ℕ) × HasAt fetch t (loop_code loop t next)
+        (p ≡ []) × (t : ℕ) × Fetches pc (o.Jump t) × TurnsBack loop × FineStatement functions repeated params locals loop
+        × (next : ℕ) × HasAt fetch t (statement_code classes repeating params base maker loop t next next next)
         × Lies k next []
     Lies (Each i a k) pc p =
         (p ≡ []) × IsName (Local (suc (suc i))) × FineStatement functions repeated params locals a × (next : ℕ)
-        × HasAt fetch pc (each_code i a pc next) × Lies k next []
+        × HasAt fetch pc (item_code classes repeating params base i pc next
+        ++ (statement_code classes repeating params base maker a (pc + item_size) pc next pc ++ o.Jump pc ∷ []))
+        × Lies k next []
     Lies (Leave to) pc p = (t : ℕ) × Fetches pc (o.Jump t) × Lies to t p
     Lies Give pc p = One (λ q. Fetches pc (o.Return (height q))) p
     Lies (Round f) pc p =

@@ -1,5 +1,5 @@
 -- When an activity of flat code does what one of the source has left to do.
-use Rattle.std.specs.Prelude.{◌≡◌, ℕ, ◌+◌, ◌<◌, ◌⊎◌, true, List, [], ◌∷◌, length, Option, None}
+use Rattle.std.specs.Prelude.{◌≡◌, ℕ, ◌+◌, ◌<◌, ◌⊎◌, true, List, [], ◌∷◌, ◌++◌, length, Option, None}
 use Rattle.std.specs.List.{AllZip}
 use Rattle.board_world.specs.Observations.{ByteList}
 use Rattle.flat_ir.specs.declared.ops.Op.{Op}
@@ -39,42 +39,32 @@ module _ (P : TypedProgram) (texts : List ByteList) where
   abbrev pub fetched : ℕ → ℕ → Option Op
   fetched j place = op_of (entry (lowered P).functions j) place
 
-  -- what is left to do in function f of the source lies at a place of function j of flat code
-  abbrev pub LiesIn : (f j params locals : ℕ) → Continuation → ℕ → Marks → Type 0
-  LiesIn f j params locals k place p =
-      Lies P.classes (length P.functions) (repeating P) (repeated_in_program P) params locals (fetched j)
-      (is_maker P.classes f) k place p
-
+  -- what is left to do in function f of the source lies at a place of function j of flat code, or where a jump there goes
   abbrev pub NearIn : (f j params locals : ℕ) → Continuation → ℕ → Marks → Type 0
   NearIn f j params locals k place p =
       Near P.classes (length P.functions) (repeating P) (repeated_in_program P) params locals (fetched j)
-      (is_maker P.classes f) (LiesIn f j params locals k) place p
+      (is_maker P.classes f) (Lies P.classes (length P.functions) (repeating P) (repeated_in_program P) params locals
+      (fetched j) (is_maker P.classes f) k) place p
 
-  -- a frame that runs
-  pub record FrameTied (a : Frame) (b : FlatFrame) : Type 0 where
+  -- a frame goes on at a place, with what is given to it before
+  pub record FrameGoesOn (given : Marks) (place : ℕ) (a : Frame) (b : FlatFrame) : Type 0 where
     pub params : ℕ
     pub locals : ℕ
     pub marks : Marks
     pub words : words (lowered P) b.function ≡ source.words P texts a.function
     pub this : is_maker P.classes a.function ≡ true → 0 < params
     pub shows : Shows params locals a.names marks a.values b.temps
-    pub near : NearIn a.function b.function params locals a.todo b.place marks
+    pub near : NearIn a.function b.function params locals a.todo place (given ++ marks)
 
   -- a frame that waits for the value of its call
   pub record FrameWaits (a : Frame) (b : FlatFrame) : Type 0 where
-    pub params : ℕ
-    pub locals : ℕ
-    pub marks : Marks
-    pub words : words (lowered P) b.function ≡ source.words P texts a.function
-    pub this : is_maker P.classes a.function ≡ true → 0 < params
-    pub shows : Shows params locals a.names marks a.values b.temps
-    pub result : result_of (op_at (lowered P) b) ≡ Gives (params + locals + length marks)
-    pub near : NearIn a.function b.function params locals a.todo (b.place + 1) (None ∷ marks)
+    pub frame : FrameGoesOn (None ∷ []) (b.place + 1) a b
+    pub result : result_of (op_at (lowered P) b) ≡ Gives (frame.params + frame.locals + length frame.marks)
 
   -- an activity
   abbrev pub Tied : Activity → FlatActivity → Type 0
   Tied (Starts f base) (Enters j base') = CodeTied f j × (base ≡ base')
   Tied (Runs a callers base depth) (Stands b waiting base') =
-      FrameTied a b × AllZip FrameWaits callers waiting × (base ≡ base')
+      FrameGoesOn [] b.place a b × AllZip FrameWaits callers waiting × (base ≡ base')
       × (depth ≡ base + depth_of (lowered P) (b ∷ waiting))
   Tied _ _ = ⊥
