@@ -6,7 +6,6 @@ use Rattle.thumb_code.specs.Machine.{State as Machine}
 use Rattle.fiber_pool.specs.Kept.{Kept, or_unused}
 use Rattle.fiber_runtime.specs.declared.turning.Turning.{Turning}
 use Rattle.fiber_runtime.specs.declared.blocking.Why.{Why}
-use Rattle.bank_model.specs.Standing.{words_in}
 use Rattle.fiber_runtime.specs.State.{State, ReachesBase, kept_of}
 use Rattle.fiber_runtime.specs.Moves.{BlocksWith, Blocked, Put, Resumed, Parked, Taken, HasWords}
 use Rattle.fiber_runtime.proofs.Sound.{updates_twice}

@@ -1,5 +1,5 @@
 -- When a flash holds pieces at places, and what a machine then does at each.
-use Rattle.std.specs.Prelude.{◌≡◌, ℕ, ◌+◌, ◌*◌, ◌%◌, ◌<◌, ◌≤◌, List, ℤ, true, false, Some, slice_get, slice_set}
+use Rattle.std.specs.Prelude.{◌≡◌, ℕ, ◌+◌, ◌*◌, ◌%◌, ◌<◌, List, ℤ, true, false, Some, slice_get, slice_set}
 use Rattle.std.specs.Int.{cast_unsigned, w32}
 use Rattle.thumb_code.specs.declared.instructions.Instr.{Instr}
 use Rattle.thumb_code.specs.declared.instructions.Instr.TheVariants.{MovImm, LdrPc, BCond, B, Bl}

@@ -1,5 +1,5 @@
 use Rattle.std.proofs.Common.{◌≡◌, ℕ, ◌+◌, ◌++◌, ◌<◌, ◌≤◌, List, Option, length, slice_index, sym, ap, ◌∙◌, subst}
-use Rattle.std.specs.List.{AllByRecursion, enumerate_from}
+use Rattle.std.specs.List.{enumerate_from}
 use Rattle.std.proofs.lemmas.Result.{err_from_is_err_and}
 use Rattle.thumb_code.specs.Map.{flash_end}
 use Rattle.flat_ir.specs.declared.ops.FlatClass.{FlatClass}
