@@ -7,6 +7,7 @@ use Rattle.board_world.specs.Simulation.{Paired}
 use Rattle.sts_syntax.specs.TypedTrees.{TypedProgram}
 use Rattle.event_script.specs.Json.{IsTree}
 use Rattle.event_script.specs.declared.script.Script.{Script}
+use Rattle.event_script.specs.Verdict as script_verdict
 use Rattle.class_file.specs.Verdict.{Tells}
 use Rattle.class_file.specs.declared.class.Names.{Names}
 use Rattle.class_file.specs.declared.class.ClassFile.{ClassFile}
@@ -14,23 +15,21 @@ use Rattle.class_file.specs.declared.class.ClassCode.{ClassCode}
 use Rattle.class_file.specs.declared.class.ClassCode.TheVariants.{NotJson, NotClass, BadCount, EndDiffers}
 use Rattle.class_file.specs.declared.class.ClassRefused.{ClassRefused}
 use Rattle.class_file.specs.declared.class.ClassRefused.TheVariants.{Class as OfClass}
+use Rattle.sts_whole.specs.Accepting.{Accepts}
+use Rattle.sts_whole.specs.Built.{Builds}
 use Rattle.run_tool.specs.declared.fetched.Fetched.TheVariants.{Text}
-use Rattle.run_tool.specs.Fetches.{ToldFiles}
+use Rattle.run_tool.specs.Files.{ToldFiles, AnswersFile, code_line}
 use Rattle.run_tool.specs.Answers.{Answer}
-use Rattle.run_tool.specs.Files.{AnswersFile}
-use Rattle.run_tool.specs.Scripts.{script_refused_line}
-use Rattle.run_tool.specs.inner.Nothing.{none_to_read, none_to_boards}
-use Rattle.run_tool.specs.ClassFiles.{RefusesClass, AnswersClassFile, class_refused_line}
-use Rattle.run_tool.specs.ClassBoards.{BoardSource, OverBoardProgram, AnswersBoardScript, OverBoardScript, OverBoard, OverBoards}
-use Rattle.run_tool.specs.inner.ClassReady.{IsImageOf, IsBoardScript, IsSourceOf}
-use Rattle.run_tool.proofs.Readings.{IsOnward, fetch-onwards, file-onwards, file-more}
+use Rattle.run_tool.specs.inner.Handed.{none_to_read, HasText, IsSourceOf}
+use Rattle.run_tool.specs.ClassBoards.{RefusesClass, AnswersClassFile, BoardSource, OverBoardProgram, AnswersBoardScript, OverBoardScript, OverBoard, OverBoards}
+use Rattle.run_tool.proofs.Readings.{IsOnward, text-kept, file-onwards, file-more}
 
-pub class-refusal-pieces : (printed code : ℕ) → printed ≡ code → [] ++ codes "class refused " ++ decimal printed ++ codes "\n" ≡ class_refused_line code
-class-refusal-pieces printed code e = append_assoc (codes "class refused ") (decimal printed) (codes "\n") ∙ ap class_refused_line e
+pub class-refusal-pieces : (printed code : ℕ) → printed ≡ code → [] ++ codes "class refused " ++ decimal printed ++ codes "\n" ≡ code_line (codes "class refused ") code
+class-refusal-pieces printed code e = append_assoc (codes "class refused ") (decimal printed) (codes "\n") ∙ ap (code_line (codes "class refused ")) e
 
-pub board-script-pieces : (lead : List ℕ) (printed code : ℕ) → printed ≡ code → lead ++ codes "script refused " ++ decimal printed ++ codes "\n" ≡ lead ++ script_refused_line code
+pub board-script-pieces : (lead : List ℕ) (printed code : ℕ) → printed ≡ code → lead ++ codes "script refused " ++ decimal printed ++ codes "\n" ≡ lead ++ code_line (codes "script refused ") code
 board-script-pieces lead printed code e =
-    append_assoc (lead ++ codes "script refused ") (decimal printed) (codes "\n") ∙ append_assoc lead (codes "script refused ") (decimal printed ++ codes "\n") ∙ ap (λ n. lead ++ script_refused_line n) e
+    append_assoc (lead ++ codes "script refused ") (decimal printed) (codes "\n") ∙ append_assoc lead (codes "script refused ") (decimal printed ++ codes "\n") ∙ ap (λ n. lead ++ code_line (codes "script refused ") n) e
 
 -- why a class is refused
 pub refuses-class : (text : List ℕ) (r : Result ClassFile ClassRefused) (code : ClassCode) → r ≡ Err (OfClass code)
@@ -56,8 +55,8 @@ pub board-program-more : (b : ℕ) (answers more : Tables → TypedProgram → A
 board-program-more b answers more text answer f (inl h) = inl (h.0, h.1, f h.0.0 h.0.1 h.2)
 board-program-more b answers more text answer f (inr h) = inr h
 
-pub no-board-program : (b : ℕ) (answers : Tables → TypedProgram → Answer → Type 0) (text : List ℕ) (answer : Answer) → OverBoardProgram b none_to_boards text answer → OverBoardProgram b answers text answer
-no-board-program b answers text answer h = board-program-more b none_to_boards answers text answer (λ tables P x. absurd x) h
+pub no-board-program : (b : ℕ) (answers : Tables → TypedProgram → Answer → Type 0) (text : List ℕ) (answer : Answer) → OverBoardProgram b (λ tables. none_to_read) text answer → OverBoardProgram b answers text answer
+no-board-program b answers text answer h = board-program-more b (λ tables. none_to_read) answers text answer (λ tables P x. absurd x) h
 
 -- of its script,
 pub board-script-more : (b until : ℕ) (answers more : Script → Answer → Type 0) (text : List ℕ) (answer : Answer) → ((script : Script) → answers script answer → more script answer)
@@ -92,7 +91,7 @@ module _ (files : ToldFiles) (until : ℕ) where
   -- the answers over a board of this source
   pub board-read : (b : ℕ) (names : Names) (answers : BoardSource → Answer → Type 0) (board : BoardSource) (answer : Answer) → IsSourceOf files until names board → answers board answer
       → OverBoard files until b names answers answer
-  board-read b names answers board answer s h = (Text s.text, s.fetched, inl ((board.tables, board.program), s.accepted, (Text s.script.text, s.script.fetched, inl (board.script, (s.script.is, s.script.ends), h))))
+  board-read b names answers board answer s h = (Text s.program.0, s.program.1, inl ((board.tables, board.program), s.program.2, (Text s.script.0, s.script.1, inl (board.script, (s.script.2, s.ends), h))))
 
   -- over boards of which the first have these sources
   pub boards-read : (b k : ℕ) (done more : List Names) (sources : List BoardSource) (answers : List BoardSource → Answer → Type 0) (answer : Answer) → k ≡ b + length done → Paired (IsSourceOf files until) done sources
@@ -132,32 +131,29 @@ module _ (files files' : ToldFiles) (until : ℕ) (on : IsOnward files files') w
       (λ board x. boards-onwards (suc b) names (λ boards. answers (board ∷ boards)) answer x)
       (board-onwards b n (λ board. OverBoards files until (suc b) names (λ boards. answers (board ∷ boards))) answer h)
 
-  pub script-onwards : (name : List ℕ) (script : Script) → IsBoardScript files until name script → IsBoardScript files' until name script
-  script-onwards name script s = record { text = s.text; fetched = fetch-onwards files files' name (Text s.text) on s.fetched; is = s.is; ends = s.ends }
-
   pub source-onwards : (names : Names) (board : BoardSource) → IsSourceOf files until names board → IsSourceOf files' until names board
-  source-onwards names board s =
-      record { text = s.text; fetched = fetch-onwards files files' names.program (Text s.text) on s.fetched; accepted = s.accepted; script = script-onwards names.script board.script s.script }
+  source-onwards names board s = record {
+    program = text-kept files files' on names.program (λ text. Accepts text board.tables board.program) s.program;
+    script = text-kept files files' on names.script (λ text. script_verdict.Tells text (Ok board.script)) s.script;
+    ends = s.ends;
+  }
 
-pub image-onwards : (files files' : ToldFiles) → IsOnward files files' → (name image : List ℕ) → IsImageOf files name image → IsImageOf files' name image
-image-onwards files files' on name image s = record { text = s.text; fetched = fetch-onwards files files' name (Text s.text) on s.fetched; builds = s.builds }
+pub image-onwards : (files files' : ToldFiles) → IsOnward files files' → (name image : List ℕ) → HasText files name (λ text. Builds text image) → HasText files' name (λ text. Builds text image)
+image-onwards files files' on name image s = text-kept files files' on name (λ text. Builds text image) s
 
 -- where a board's program wasn't accepted, or its script wasn't read, the answer is one over the board
-pub board-refused : (files : ToldFiles) (until b : ℕ) (names : Names) (answer : Answer) → AnswersFile files names.program (OverBoardProgram b none_to_boards) answer → OverBoard files until b names none_to_read answer
+pub board-refused : (files : ToldFiles) (until b : ℕ) (names : Names) (answer : Answer) → AnswersFile files names.program (OverBoardProgram b (λ tables. none_to_read)) answer → OverBoard files until b names none_to_read answer
 board-refused files until b names answer h =
     (let of = λ (tables : Tables) (P : TypedProgram). OverBoardScript files until b names.script none_to_read in
-    file-more (OverBoardProgram b none_to_boards) (OverBoardProgram b of) files names.program answer (λ text x. no-board-program b of text answer x) h)
+    file-more (OverBoardProgram b (λ tables. none_to_read)) (OverBoardProgram b of) files names.program answer (λ text x. no-board-program b of text answer x) h)
 
-pub script-answered : (files mid now : ToldFiles) (until : ℕ) → IsOnward mid now → (b : ℕ) (names : Names) (image : List ℕ) → IsImageOf files names.program image → IsOnward files now
+pub script-answered : (files mid now : ToldFiles) (until : ℕ) → IsOnward mid now → (b : ℕ) (names : Names) (image : List ℕ) → HasText files names.program (λ text. Builds text image) → IsOnward files now
     → (answer : Answer) → OverBoardScript mid until b names.script none_to_read answer → OverBoard now until b names none_to_read answer
 script-answered files mid now until on b names image i was answer h =
     (let there = image-onwards files now was names.program image i in
-    (Text there.text, there.fetched, inl ((there.builds.tables, there.builds.program), there.builds.accepted, board-script-onwards mid now until on b names.script none_to_read answer h)))
+    (Text there.0, there.1, inl ((there.2.tables, there.2.program), there.2.accepted, board-script-onwards mid now until on b names.script none_to_read answer h)))
 
 -- two facts of what was read, or of how the call ended
-pub if-oks : {T E : Type 0} {P Q R : T → Type 0} (r : Result T E) → ((x : T) → P x → Q x → R x) → IfOk r P → IfOk r Q → IfOk r R
-if-oks (Ok x) f p q = f x p q
-if-oks (Err x) f p q = tt
 
 pub ok-so : {T E : Type 0} {P R : T → Type 0} {Q : Type 0} (r : Result T E) → ((x : T) → P x → Q → R x) → IfOk r P → OnOk r Q → IfOk r R
 ok-so (Ok x) f p q = f x p q

@@ -1,6 +1,6 @@
 -- Boards of a class that are made ready, and their run.
-use Rattle.std.proofs.Common.{◌≡◌, ◌≤◌, ◌<◌, ◌+◌, ℕ, List, [], ◌∷◌, ◌++◌, length, map, inl, inr, refl, sym, ap, ◌∙◌, subst, arith, length-append, take, drop, get_or}
-use Rattle.std.specs.Prelude.{Option, vec_len, All}
+use Rattle.std.proofs.Common.{◌≡◌, ◌≤◌, ◌<◌, ◌+◌, ℕ, List, [], ◌∷◌, ◌++◌, length, map, inl, inr, refl, sym, ap, ◌∙◌, subst, arith, rules, length-append, take, drop, get_or}
+use Rattle.std.specs.Prelude.{Option, Ok, vec_len, All}
 use Rattle.std.specs.declared.vec.Vec.{Vec}
 use Rattle.std.specs.declared.alloc.Global.{Global}
 use Rattle.std.proofs.lemmas.List.{take_more, drop_more, length-take-le, take-append-drop}
@@ -14,6 +14,7 @@ use Rattle.bank_model.specs.Fibers.{Fiber, Shared}
 use Rattle.sts_implements.specs.Images.{instructions_of_a_step}
 use Rattle.event_script.specs.declared.script.Script.{Script}
 use Rattle.event_script.specs.Sound.{IsSound}
+use Rattle.event_script.specs.Verdict.{Tells}
 use Rattle.event_script.specs.World.{world_entries}
 use Rattle.class_file.specs.declared.class.Names.{Names}
 use Rattle.class_file.specs.declared.class.ClassFile.{ClassFile}
@@ -22,7 +23,7 @@ use Rattle.class_world.specs.Implementing.{MemberImplements}
 use Rattle.class_steps.specs.Texts.{HasWholeText, HasSpentText, IsTextOf, boards_now}
 use Rattle.class_meaning.proofs.Laws.{means_whole, means_cut}
 use Rattle.class_radio.specs.Playing.{Setup, member_of}
-use Rattle.class_radio.specs.Outcome.{setups_of, members_of, class_of_parts, IsDone, HasSpent, IsStopped, RanClass}
+use Rattle.class_radio.specs.Outcome.{setups_of, members_of, class_of_parts, is_panic, how_many_end, IsDone, HasSpent, IsStopped, RanClass}
 use Rattle.class_radio.specs.declared.run.ClassEnd.{ClassEnd}
 use Rattle.class_radio.specs.declared.run.ClassEnd.TheVariants as end
 use Rattle.run_tool.specs.declared.ending.Status.TheVariants.{OutOfBudget}
@@ -30,15 +31,12 @@ use Rattle.run_tool.specs.declared.ending.Ending.TheVariants.{Gave, Cut}
 use Rattle.run_tool.specs.declared.class_boards.Boards.{Boards}
 use Rattle.run_tool.specs.declared.fetched.Fetched.TheVariants.{Text}
 use Rattle.run_tool.specs.Answers.{Answer, says}
-use Rattle.run_tool.specs.Fetches.{ToldFiles}
-use Rattle.run_tool.specs.inner.Giving.{GivesOneOf}
+use Rattle.run_tool.specs.Files.{ToldFiles}
+use Rattle.run_tool.specs.inner.Handed.{GivesOneOf, none_to_read, IsSourceOf, HasAdded, AreReady, ending_of_class}
 use Rattle.run_tool.specs.ClassBoards.{BoardSource, OverBoard, OverBoards}
-use Rattle.run_tool.specs.inner.Nothing.{none_to_read}
-use Rattle.run_tool.specs.inner.ClassReady.{IsSourceOf, HasAdded, AreReady}
-use Rattle.run_tool.specs.Class.{source_member, IsBuiltAs, ImagesRun, status_by, class_status, RunsWhole, RunsCut, RunsClass}
-use Rattle.run_tool.specs.inner.Finishing.{ending_of_class}
-use Rattle.run_tool.proofs.Readings.{IsOnward, fetch-onwards}
-use Rattle.run_tool.proofs.ClassAnswers.{boards-stop, board-onwards, script-onwards, source-onwards}
+use Rattle.run_tool.specs.Class.{source_member, IsBuiltAs, ImagesRun, status_by, RunsWhole, RunsCut, RunsClass}
+use Rattle.run_tool.proofs.Readings.{IsOnward, fetch-onwards, text-kept}
+use Rattle.run_tool.proofs.ClassAnswers.{boards-stop, board-onwards, source-onwards}
 
 -- ---- more boards
 
@@ -66,21 +64,21 @@ module _ (before mid now : ToldFiles) (until : ℕ) (was : IsOnward before now) 
   -- one more is ready, where the folder tells the same and failed no less
   pub one-more : (names : List Names) (n : Names) (old new : Boards) → AreReady before until names old → HasAdded mid until n old new → AreReady now until (names ++ n ∷ []) new
   one-more names n old new r h =
-      (let b = h.is_image.builds in
-      let board : BoardSource = record { program = b.program; tables = b.tables; script = h.more.script } in
+      (let b = h.built.2 in
+      let board : BoardSource = record { program = b.program; tables = b.tables; script = h.script } in
       let source : IsSourceOf now until n board = record {
-        text = h.is_image.text;
-        fetched = fetch-onwards mid now n.program (Text h.is_image.text) on h.is_image.fetched;
-        accepted = b.accepted;
-        script = script-onwards mid now until on n.script h.more.script h.more.is;
+        program = (h.built.0, fetch-onwards mid now n.program (Text h.built.0) on h.built.1, b.accepted);
+        script = text-kept mid now on n.script (λ text. Tells text (Ok h.script)) h.read;
+        ends = h.ends;
       } in
-      let made : IsBuiltAs board (record { image = h.image.items; script = h.more.script }) = record { is_image = h.flashed; implements = b.implements; script = refl } in
+      let fits : vec_len h.image ≤ flash_end = (let room = b.room in search rules) in
+      let made : IsBuiltAs board (record { image = h.image.items; script = h.script }) = record { is_image = h.flashed; implements = b.implements; script = refl } in
       let as_many : length old.scripts.items ≡ length old.images.items = r.can_run.as_many in
-      let setups : setups_of new.images.items new.scripts.items ≡ setups_of old.images.items old.scripts.items ++ record { image = h.image.items; script = h.more.script } ∷ [] =
-      ap (λ (xs : List (Vec ℕ Global)). setups_of xs new.scripts.items) h.more.images ∙ ap (λ (ys : List Script). setups_of (old.images.items ++ h.image ∷ []) ys) h.more.scripts
-      ∙ setups-push old.images.items old.scripts.items h.image h.more.script as_many in
-      let images : length new.images.items ≡ length old.images.items + 1 = ap length h.more.images ∙ length-append old.images.items (h.image ∷ []) in
-      let scripts : length new.scripts.items ≡ length old.scripts.items + 1 = ap length h.more.scripts ∙ length-append old.scripts.items (h.more.script ∷ []) in
+      let setups : setups_of new.images.items new.scripts.items ≡ setups_of old.images.items old.scripts.items ++ record { image = h.image.items; script = h.script } ∷ [] =
+      ap (λ (xs : List (Vec ℕ Global)). setups_of xs new.scripts.items) h.images ∙ ap (λ (ys : List Script). setups_of (old.images.items ++ h.image ∷ []) ys) h.scripts
+      ∙ setups-push old.images.items old.scripts.items h.image h.script as_many in
+      let images : length new.images.items ≡ length old.images.items + 1 = ap length h.images ∙ length-append old.images.items (h.image ∷ []) in
+      let scripts : length new.scripts.items ≡ length old.scripts.items + 1 = ap length h.scripts ∙ length-append old.scripts.items (h.script ∷ []) in
       let more : length (names ++ n ∷ []) ≡ length names + 1 = length-append names (n ∷ []) in
       let were : length old.images.items ≡ length names = r.as_many in
       record {
@@ -90,9 +88,9 @@ module _ (before mid now : ToldFiles) (until : ℕ) (was : IsOnward before now) 
         as_many = omega (arith, images, more, were);
         can_run = record {
           as_many = omega (arith, images, scripts, as_many);
-          fit = subst (λ (xs : List (Vec ℕ Global)). All (λ image. vec_len image ≤ flash_end) xs) (sym h.more.images) (All-push (λ (image : Vec ℕ Global). vec_len image ≤ flash_end) old.images.items h.image r.can_run.fit h.fits);
-          sound = subst (λ (xs : List Script). All IsSound xs) (sym h.more.scripts) (All-push IsSound old.scripts.items h.more.script r.can_run.sound h.more.sound);
-          ends = subst (λ (xs : List Script). All (λ (s : Script). s.end ≡ until) xs) (sym h.more.scripts) (All-push (λ (s : Script). s.end ≡ until) old.scripts.items h.more.script r.can_run.ends h.more.is.ends);
+          fit = subst (λ (xs : List (Vec ℕ Global)). All (λ image. vec_len image ≤ flash_end) xs) (sym h.images) (All-push (λ (image : Vec ℕ Global). vec_len image ≤ flash_end) old.images.items h.image r.can_run.fit fits);
+          sound = subst (λ (xs : List Script). All IsSound xs) (sym h.scripts) (All-push IsSound old.scripts.items h.script r.can_run.sound h.sound);
+          ends = subst (λ (xs : List Script). All (λ (s : Script). s.end ≡ until) xs) (sym h.scripts) (All-push (λ (s : Script). s.end ≡ until) old.scripts.items h.script r.can_run.ends h.ends);
         };
       })
 
@@ -152,10 +150,10 @@ module _ (class : ClassFile) (sources : List BoardSource) (setups : List Setup) 
   images-run frees runs h = record { setups = setups; built = made; frees = frees; run = h }
 
   -- a text of the images' class is one of the sources'
-  whole-text : (frees : List (List ℕ)) (text : ByteList) (w : HasWholeText (Below frees) budget text) → RunsWhole class sources budget (says (class_status (boards_now class.end w.runs)) text)
+  whole-text : (frees : List (List ℕ)) (text : ByteList) (w : HasWholeText (Below frees) budget text) → RunsWhole class sources budget (says (status_by (how_many_end is_panic (boards_now class.end w.runs))) text)
   whole-text frees text w =
       (let m = means_whole instructions_of_a_step (map source_member sources) (Below frees) budget text (members-implement sources setups frees made) w in
-      record { text = text; has = m.has; images = images-run frees (λ C. HasWholeText C budget text) w; is = ap (λ (bs : List Board). says (class_status bs) text) (sym m.same) })
+      record { text = text; has = m.has; images = images-run frees (λ C. HasWholeText C budget text) w; is = ap (λ (bs : List Board). says (status_by (how_many_end is_panic bs)) text) (sym m.same) })
 
   cut-text : (frees : List (List ℕ)) (text : ByteList) → HasSpentText (Below frees) budget text → RunsCut class sources budget (says OutOfBudget text)
   cut-text frees text c =
@@ -176,7 +174,7 @@ module _ (class : ClassFile) (sources : List BoardSource) (setups : List Setup) 
     stopped d rose = by_text d.is
       where
         by_text : IsTextOf (Below d.frees) budget d.text → GivesOneOf taken faults old new (RunsClass class sources budget) Cut
-        by_text (inl w) = record { ends = (class_status (boards_now class.end w.runs), d.text, inl (whole-text d.frees d.text w), d.written); later = later; cut = λ e. rose }
+        by_text (inl w) = record { ends = (status_by (how_many_end is_panic (boards_now class.end w.runs)), d.text, inl (whole-text d.frees d.text w), d.written); later = later; cut = λ e. rose }
         by_text (inr w) = record { ends = (OutOfBudget, d.text, inr (cut-text d.frees d.text w), d.written); later = later; cut = λ e. rose }
 
     pub class-ends : (e : ClassEnd) → RanClass setups class.lose class.end budget (taken old) (taken new) (faults old) (faults new) e → GivesOneOf taken faults old new (RunsClass class sources budget) (ending_of_class e)

@@ -10,9 +10,8 @@ use Rattle.run_tool.specs.declared.ending.Status.{Status}
 use Rattle.run_tool.specs.declared.ending.Status.TheVariants as status
 use Rattle.run_tool.specs.declared.fetched.Fetched.{Fetched}
 use Rattle.run_tool.specs.declared.fetched.Fetched.TheVariants.{Text, Absent, Long, Failed}
-use Rattle.run_tool.specs.Fetches.{ToldFiles, MayFetch}
+use Rattle.run_tool.specs.Files.{ToldFiles, MayFetch, AnswersFetched, AnswersFile}
 use Rattle.run_tool.specs.Answers.{Answer, status_of, status_number}
-use Rattle.run_tool.specs.Files.{AnswersFetched, AnswersFile}
 use Rattle.run_tool.specs.ClassBoards.{BoardSource, OverBoardProgram, Unfit, no_script, other_end, TellsUnfit, AnswersBoardScript, OverBoardScript, OverBoard, OverBoards}
 use Rattle.class_file.specs.declared.class.ClassFile.{ClassFile}
 use Rattle.run_tool.specs.Class.{RunsClass, RunsClassText}

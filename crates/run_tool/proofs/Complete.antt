@@ -5,17 +5,15 @@ use Rattle.hex_image.specs.Spells.{Spells}
 use Rattle.hex_image.proofs.Laws.{one_reading-of}
 use Rattle.sts_whole.specs.Laws.{OneAnswer}
 use Rattle.sts_words.specs.Orders.{Asked, check_program, build_program, run_program, run_image, run_at, run_class, run_big}
-use Rattle.run_tool.specs.Fetches.{Telling, ToldFiles, unfailing}
+use Rattle.run_tool.specs.Files.{Telling, ToldFiles, unfailing}
 use Rattle.run_tool.specs.Answers.{Answer, OfSink, status_of, status_number}
 use Rattle.run_tool.specs.Scripts.{OverScript, default_script}
 use Rattle.run_tool.specs.Big.{big_text}
-use Rattle.run_tool.specs.Check.{SaysAccepted}
-use Rattle.run_tool.specs.Build.{WritesImage}
-use Rattle.run_tool.specs.Run.{RunsProgram}
-use Rattle.run_tool.specs.Runs.{IsImageStatus, RunsBoard}
-use Rattle.run_tool.specs.RunHex.{RunsHex}
+use Rattle.run_tool.specs.Programs.{WritesImage}
+use Rattle.run_tool.specs.Runs.{RunsProgram, IsImageStatus, RunsBoard, RunsHex}
 use Rattle.run_tool.specs.Orders.{MayAnswer, IsStatusOf, CompletesCommand}
 use Rattle.run_tool.specs.Completeness.{HoldsScript, HoldsFiles, MayEndWith, IsComplete}
+use Rattle.run_tool.proofs.Readings.{SaysAccepted}
 use Rattle.run_tool.proofs.Headlines.{file-told, script-told, program-told, program-file-told, never}
 use Rattle.run_tool.proofs.ProgramStatuses.{program-number, run-number as program-end}
 use Rattle.run_tool.proofs.ToldAt.{due}

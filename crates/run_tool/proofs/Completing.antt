@@ -16,27 +16,21 @@ use Rattle.run_tool.specs.declared.fetched.Fetched.{Fetched}
 use Rattle.run_tool.specs.declared.fetched.Fetched.TheVariants.{Text, Absent, Long, Failed}
 use Rattle.sts_base.specs.Faults.{Rose}
 use Rattle.sts_words.specs.Orders.{Asked, check_program, build_program, run_program, run_image, run_at, run_class, run_big}
-use Rattle.run_tool.specs.Fetches.{ToldFiles, unfailing, MayFetch}
+use Rattle.run_tool.specs.Files.{ToldFiles, unfailing, MayFetch, AnswersFetched, AnswersFile}
 use Rattle.run_tool.specs.Answers.{Answer, says, status_of, status_number, OfSink, OfDevices, CommandEnds, Concludes, ending_number}
-use Rattle.run_tool.specs.Files.{AnswersFetched, AnswersFile}
 use Rattle.run_tool.specs.Scripts.{AnswersScript, OverScript, default_script}
-use Rattle.run_tool.specs.Runs.{run_status, RunsBoard}
-use Rattle.run_tool.specs.RunHex.{RunsHex}
+use Rattle.run_tool.specs.Runs.{run_status, RunsBoard, RunsHex, RunsProgram, RunsText}
 use Rattle.run_tool.specs.Big.{big_text}
-use Rattle.run_tool.specs.Programs.{OverProgram}
-use Rattle.run_tool.specs.Check.{SaysAccepted, ChecksText}
-use Rattle.run_tool.specs.Build.{WritesImage, BuildsText}
-use Rattle.run_tool.specs.Run.{RunsProgram, RunsText}
-use Rattle.run_tool.specs.Orders.{MayAnswer, CompletesCommand, IsOfImage, IsOfProgram, NamesScript}
+use Rattle.run_tool.specs.Programs.{OverProgram, ChecksText, WritesImage, BuildsText}
+use Rattle.run_tool.specs.Orders.{MayAnswer, CompletesCommand, IsOfImage, NamesScript}
 use Rattle.sts_whole.specs.Programs.{source_after}
 use Rattle.sts_whole.proofs.Laws.{faultless}
-use Rattle.run_tool.proofs.Readings.{IsOnward, quietly, file-onwards, file-more}
+use Rattle.run_tool.proofs.Readings.{SaysAccepted, IsOnward, quietly, file-onwards, file-more}
 use Rattle.run_tool.proofs.ImageRuns.{program-onwards, hex-onwards}
 use Rattle.arrival_file.specs.declared.arrival.Arrival.{Arrival}
 use Rattle.irq_arrival.specs.SourceRuns.{source_at}
-use Rattle.run_tool.specs.Arrivals.{AnswersArrivals}
+use Rattle.run_tool.specs.RunAt.{AnswersArrivals, RunsProgramAt, RunsOnScript, RunsOutside, RunsTextAt}
 use Rattle.run_tool.specs.Class.{RunsClassText}
-use Rattle.run_tool.specs.RunAt.{RunsProgramAt, RunsOnScript, RunsOutside, RunsTextAt}
 use Rattle.run_tool.proofs.RunsAt.{text-runs-onwards}
 use Rattle.run_tool.proofs.ClassTexts.{class-text-onwards}
 use Rattle.run_tool.proofs.ClassStatuses.{in-class}
@@ -299,14 +293,14 @@ image-status files (run_class name budget) text answer i h = absurd (two-ways fa
 image-status files (run_big size budget stats) text answer i h = absurd (no-program-run of_image files None budget stats false (big_text size) answer image-program refl refl refl refl refl i h)
 
 -- a program is refused only where the words ask for one
-refused-status : (files : ToldFiles) (asked : Asked) (text : List ℕ) (answer : Answer) → of_refused (status_of answer) ≡ true → AnswersText files asked text answer → IsOfProgram asked
-refused-status files (check_program name) text answer i h = tt
-refused-status files (build_program name) text answer i h = tt
-refused-status files (run_program name script budget stats image) text answer i h = tt
-refused-status files (run_image name script budget) text answer i h = no-image-run of_refused files script budget text answer refused-run refl refl refl refl refl i h
-refused-status files (run_at name script arrivals budget) text answer i h = tt
-refused-status files (run_class name budget) text answer i h = tt
-refused-status files (run_big size budget stats) text answer i h = tt
+refused-status : (files : ToldFiles) (asked : Asked) (text : List ℕ) (answer : Answer) → of_refused (status_of answer) ≡ true → AnswersText files asked text answer → ¬ IsOfImage asked
+refused-status files (check_program name) text answer i h = λ x. x
+refused-status files (build_program name) text answer i h = λ x. x
+refused-status files (run_program name script budget stats image) text answer i h = λ x. x
+refused-status files (run_image name script budget) text answer i h = λ x. no-image-run of_refused files script budget text answer refused-run refl refl refl refl refl i h
+refused-status files (run_at name script arrivals budget) text answer i h = λ x. x
+refused-status files (run_class name budget) text answer i h = λ x. x
+refused-status files (run_big size budget stats) text answer i h = λ x. x
 
 -- a script is refused only where it is named
 program-script : (files : ToldFiles) (name : List ℕ) (script : Option (List ℕ)) (budget : ℕ) (stats image : Bool) (text : List ℕ) (answer : Answer)
@@ -351,9 +345,9 @@ image-answer : (files : ToldFiles) (asked : Option Asked) (answer : Answer) → 
 image-answer files None answer i r = absurd (not-said of_image answer status.Usage _ i refl r)
 image-answer files (Some asked) answer i r = of-words of_image refl refl refl IsOfImage files (image-status files) asked answer i r
 
-refused-answer : (files : ToldFiles) (asked : Option Asked) (answer : Answer) → of_refused (status_of answer) ≡ true → MayAnswer files asked answer → IsSomeAnd asked IsOfProgram
+refused-answer : (files : ToldFiles) (asked : Option Asked) (answer : Answer) → of_refused (status_of answer) ≡ true → MayAnswer files asked answer → IsSomeAnd asked (λ order. ¬ IsOfImage order)
 refused-answer files None answer i r = not-said of_refused answer status.Usage _ i refl r
-refused-answer files (Some asked) answer i r = of-words of_refused refl refl refl IsOfProgram files (refused-status files) asked answer i r
+refused-answer files (Some asked) answer i r = of-words of_refused refl refl refl (λ order. ¬ IsOfImage order) files (refused-status files) asked answer i r
 
 script-answer : (files : ToldFiles) (asked : Option Asked) (answer : Answer) → of_script (status_of answer) ≡ true → MayAnswer files asked answer → IsSomeAnd asked NamesScript
 script-answer files None answer i r = absurd (not-said of_script answer status.Usage _ i refl r)
@@ -468,7 +462,7 @@ cut-22 NoMemory e = absurd (omega (arith, e))
 
 module _ {B : Type 0} {sink : OfSink} {devices : OfDevices B} {lead : List ℕ} (files : ToldFiles) (asked : Option Asked) (ending : Ending) (number : ℕ) (n : number ≡ ending_number ending)
     (s : Concludes sink devices lead (MayAnswer files asked) ending) where
-  pub refused : number ≡ 10 → IsSomeAnd asked IsOfProgram
+  pub refused : number ≡ 10 → IsSomeAnd asked (λ order. ¬ IsOfImage order)
   refused is = (let k = given-answer (MayAnswer files asked) status.Refused ending (refused-10 ending (sym is ∙ n)) s in refused-answer files asked k.0 (ap of_refused k.2) k.1)
 
   pub script-refused : number ≡ 11 → IsSomeAnd asked NamesScript

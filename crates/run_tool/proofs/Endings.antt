@@ -25,22 +25,17 @@ use Rattle.run_tool.specs.declared.ending.Ending.{Ending}
 use Rattle.run_tool.specs.declared.ending.Ending.TheVariants.{Gave, Cut, NoMemory}
 use Rattle.run_tool.specs.declared.fetched.Fetched.{Fetched}
 use Rattle.run_tool.specs.declared.fetched.Fetched.TheVariants.{Text, Absent, Long, Failed}
-use Rattle.run_tool.specs.Fetches.{ToldFiles, MayFetch}
+use Rattle.run_tool.specs.Files.{ToldFiles, MayFetch, AnswersFetched, AnswersFile}
 use Rattle.run_tool.specs.Answers.{Answer, says, runs, status_of, output_of, ending_number, OfSink, of_sink, OfDevices, of_devices, IsAnswerCut, CommandEnds, Concludes, IsFailureTold, Led}
-use Rattle.run_tool.specs.inner.Giving.{SaysAnswer, GivesOneOf}
+use Rattle.run_tool.specs.inner.Handed.{SaysAnswer, GivesOneOf, none_to_read, ending_by, IsScriptOf}
 use Rattle.run_tool.specs.declared.ending.Status.TheVariants.{Refused}
-use Rattle.run_tool.specs.Refusals.{AnswersRefusal, refused_line}
-use Rattle.run_tool.specs.Programs.{OverProgram}
-use Rattle.run_tool.specs.inner.Nothing.{none_to_programs, none_to_read}
-use Rattle.run_tool.specs.inner.Finishing.{ending_by}
+use Rattle.run_tool.specs.Programs.{AnswersRefusal, refused_line, OverProgram}
 use Rattle.board_world.specs.Observations.{ByteList}
 use Rattle.sts_syntax.specs.TypedTrees.{TypedProgram}
 use Rattle.sts_whole.specs.Built.{Builds}
 use Rattle.sts_words.specs.Orders.{Asked}
-use Rattle.run_tool.specs.Files.{AnswersFetched, AnswersFile}
 use Rattle.run_tool.specs.Orders.{MayAnswer, lead_of}
 use Rattle.run_tool.specs.Scripts.{AnswersScript, OverScript, RefusesScript}
-use Rattle.run_tool.specs.inner.Handed.{IsScriptOf}
 use Rattle.event_script.specs.declared.script.Script.{Script}
 use Rattle.board_ports.specs.Account.{Account}
 
@@ -274,13 +269,13 @@ refused-given text code at line column put here p =
     (λ answer e. (line, column, here, e)) (puts-give Refused (refused_line (number_of code) line column) put p)
 
 -- where no program was accepted, the answer is one of each command
-pub no-program : (answers : TypedProgram → List ByteList → Answer → Type 0) (text : List ℕ) (answer : Answer) → OverProgram none_to_programs text answer → OverProgram answers text answer
+pub no-program : (answers : TypedProgram → List ByteList → Answer → Type 0) (text : List ℕ) (answer : Answer) → OverProgram (λ P. none_to_read) text answer → OverProgram answers text answer
 no-program answers text answer (inl h) = absurd h.2
 no-program answers text answer (inr h) = inr h
 
 pub no-program-gives : {S : Type 0} {taken : S → Option (List ℕ)} {faults : S → ℕ} {old new : S} (answers : TypedProgram → List ByteList → Answer → Type 0) (text : List ℕ) (ending : Ending)
-    → GivesOneOf taken faults old new (OverProgram none_to_programs text) ending → GivesOneOf taken faults old new (OverProgram answers text) ending
-no-program-gives answers text ending s = gives-more (OverProgram none_to_programs text) (OverProgram answers text) ending (no-program answers text) s
+    → GivesOneOf taken faults old new (OverProgram (λ P. none_to_read) text) ending → GivesOneOf taken faults old new (OverProgram answers text) ending
+no-program-gives answers text ending s = gives-more (OverProgram (λ P. none_to_read) text) (OverProgram answers text) ending (no-program answers text) s
 
 -- the answers to the program as which a text is accepted
 pub of-program : (answers : TypedProgram → List ByteList → Answer → Type 0) (text image : List ℕ) (b : Builds text image) (answer : Answer) → answers b.program b.tables.texts answer → OverProgram answers text answer

@@ -38,17 +38,14 @@ use Rattle.run_tool.specs.declared.ending.Ending.{Ending}
 use Rattle.run_tool.specs.declared.ending.Ending.TheVariants.{Gave, Cut, NoMemory}
 use Rattle.run_tool.specs.declared.fetched.Fetched.{Fetched}
 use Rattle.run_tool.specs.declared.fetched.Fetched.TheVariants.{Text, Absent, Long, Failed}
-use Rattle.run_tool.specs.Answers.{Answer, status_of, output_of, status_number, ending_number, OfSink, OfDevices, Leaves, CommandEnds, Concludes}
-use Rattle.run_tool.specs.Fetches.{ToldFiles, MayFetch, limit}
-use Rattle.run_tool.specs.Files.{AnswersFetched, AnswersFile}
-use Rattle.run_tool.specs.Programs.{OverProgram}
-use Rattle.run_tool.specs.Scripts.{AnswersScript, OverScript, RefusesScript}
+use Rattle.run_tool.specs.Answers.{Answer, status_of, output_of, status_number, ending_number, OfSink, OfDevices, Leaves, CommandEnds, Concludes, WroteNothing}
+use Rattle.run_tool.specs.Files.{ToldFiles, MayFetch, limit, AnswersFetched, AnswersFile}
+use Rattle.run_tool.specs.Programs.{OverProgram, IsToldProgram}
+use Rattle.run_tool.specs.Scripts.{AnswersScript, OverScript, RefusesScript, IsToldScript}
 use Rattle.run_tool.specs.Big.{big_text}
-use Rattle.run_tool.specs.Run.{RunsProgram}
-use Rattle.run_tool.specs.Statistics.{asked_behind}
+use Rattle.run_tool.specs.Runs.{RunsProgram, asked_behind}
 use Rattle.run_tool.specs.Orders.{MayAnswer, lead_of}
-use Rattle.run_tool.specs.Told.{IsToldProgram, IsToldScript}
-use Rattle.run_tool.specs.Headline.{AskedRun, AsksForRun, LacksMemory, source_board, IsTranscript, IsRunOfImage, Headline}
+use Rattle.run_tool.specs.Headline.{AskedRun, AsksForRun, source_board, IsTranscript, IsRunOfImage, Headline}
 
 -- the bytes of a file stand for one script, and then break no rule
 abbrev script_or : Script → Result Script ScriptCode → Script
@@ -194,7 +191,7 @@ module _ (one : OneAnswer) (files : ToldFiles) (calm : ¬ files.rose) where
 module _ {B : Type 0} (sink : OfSink) (devices : OfDevices B) (t : AskedRun) (number : ℕ) where
   abbrev Left : Type 0
   Left =
-      LacksMemory t sink devices number ⊎ ((steps executed : ℕ) × (image : List ℕ) × IsTranscript t sink devices number steps executed image × IsRunOfImage t steps executed image)
+      ((number ≡ 30) × WroteNothing sink devices t.lead) ⊎ ((steps executed : ℕ) × (image : List ℕ) × IsTranscript t sink devices number steps executed image × IsRunOfImage t steps executed image)
 
   -- a run that was answered whole
   given : (answer : Answer) (status : Status) → number ≡ status_number status → status ≡ status_of answer → Took sink.taken_before sink.taken_after (t.lead ++ output_of answer) → Leaves devices answer
@@ -222,7 +219,7 @@ module _ {B : Type 0} (sink : OfSink) (devices : OfDevices B) (t : AskedRun) (nu
 
   -- there was no memory
   unmade : number ≡ 30 → (Took sink.taken_before sink.taken_after [] ⊎ Took sink.taken_before sink.taken_after t.lead) → devices.after ≡ devices.before → Left
-  unmade n took same = inl (n, took, same)
+  unmade n took same = inl (n, (took, same))
 
   ended : (may : Answer → Type 0) (ending : Ending) → number ≡ ending_number ending → CommandEnds sink devices t.lead may ending → (ending ≡ Cut → Rose sink.faults_before sink.faults_after) → ¬ Rose sink.faults_before sink.faults_after
       → ((answer : Answer) → may answer → RunsAsked t answer) → Left

@@ -26,13 +26,11 @@ use Rattle.board_run.specs.Ran.{world_after, IsCut as IsRunCut}
 use Rattle.sts_whole.specs.Runs.{RunsTo, RunsImage}
 use Rattle.run_tool.specs.declared.ending.Status.TheVariants as status
 use Rattle.run_tool.specs.declared.ending.Ending.TheVariants.{Gave, Cut}
-use Rattle.run_tool.specs.Fetches.{ToldFiles}
+use Rattle.run_tool.specs.Files.{ToldFiles, code_line}
 use Rattle.run_tool.specs.Answers.{Answer, says, runs, Concludes, of_devices, of_sink}
-use Rattle.run_tool.specs.Scripts.{AnswersScript, OverScript, script_refused_line}
-use Rattle.run_tool.specs.Runs.{run_status, RunsBoard}
-use Rattle.run_tool.specs.inner.Finishing.{ending_of}
-use Rattle.run_tool.specs.Run.{RunsProgram, RunsText}
-use Rattle.run_tool.specs.RunHex.{image_refused_line, RunsHex}
+use Rattle.run_tool.specs.Scripts.{AnswersScript, OverScript}
+use Rattle.run_tool.specs.Runs.{run_status, RunsBoard, RunsProgram, RunsText, RunsHex}
+use Rattle.run_tool.specs.inner.Handed.{ending_of}
 use Rattle.board_ports.specs.Account.{Account}
 use Rattle.run_tool.proofs.Readings.{IsOnward, file-onwards}
 
@@ -51,8 +49,8 @@ image-fits text image s =
 three : (a b c : List ℕ) → a ++ b ++ c ≡ a ++ (b ++ c)
 three a b c = append_assoc a b c
 
-pub image-refusal-pieces : (printed code : ℕ) → printed ≡ code → [] ++ codes "image refused " ++ decimal printed ++ codes "\n" ≡ image_refused_line code
-image-refusal-pieces printed code e = three (codes "image refused ") (decimal printed) (codes "\n") ∙ ap image_refused_line e
+pub image-refusal-pieces : (printed code : ℕ) → printed ≡ code → [] ++ codes "image refused " ++ decimal printed ++ codes "\n" ≡ code_line (codes "image refused ") code
+image-refusal-pieces printed code e = three (codes "image refused ") (decimal printed) (codes "\n") ∙ ap (code_line (codes "image refused ")) e
 
 module _ {S B : Type 0} (taken : S → Option (List ℕ)) (faults : S → ℕ) (old new : S) (account : B → Account) (places places' : List (Option B))
     (image : List ℕ) (script : ReadScript) (budget : ℕ) (later : faults old ≤ faults new) where
@@ -118,8 +116,8 @@ program-onwards files files' script budget stats image text answer on (inr h) = 
 
 -- a text that spells no image is refused
 pub broken-answer : (files : ToldFiles) (script : Option (List ℕ)) (text : List ℕ) (budget : ℕ) (code : HexCode) (why : HexRefused) → why ≡ Image code
-    → HasCause why (Breaks text) → (answer : Answer) → answer ≡ says status.ImageRefused (image_refused_line (number_of code)) → RunsHex files script budget text answer
+    → HasCause why (Breaks text) → (answer : Answer) → answer ≡ says status.ImageRefused (code_line (codes "image refused ") (number_of code)) → RunsHex files script budget text answer
 broken-answer files script text budget code why e cause answer h = inr (code, subst (λ x. HasCause x (Breaks text)) e cause, h)
 
-pub script-refusal-pieces : (printed code : ℕ) → printed ≡ code → [] ++ codes "script refused " ++ decimal printed ++ codes "\n" ≡ script_refused_line code
-script-refusal-pieces printed code e = three (codes "script refused ") (decimal printed) (codes "\n") ∙ ap script_refused_line e
+pub script-refusal-pieces : (printed code : ℕ) → printed ≡ code → [] ++ codes "script refused " ++ decimal printed ++ codes "\n" ≡ code_line (codes "script refused ") code
+script-refusal-pieces printed code e = three (codes "script refused ") (decimal printed) (codes "\n") ∙ ap (code_line (codes "script refused ")) e

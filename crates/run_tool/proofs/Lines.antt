@@ -1,8 +1,8 @@
 -- Lines, in pieces.
 use Rattle.std.proofs.Common.{◌≡◌, ℕ, List, [], ◌++◌, ◌∙◌, ap, sym, append_assoc, decimal, codes}
 use Rattle.board_world.specs.Transcript.{stats_line}
-use Rattle.run_tool.specs.Refusals.{refused_line}
-use Rattle.run_tool.specs.Statistics.{instructions_line}
+use Rattle.run_tool.specs.Programs.{refused_line}
+use Rattle.run_tool.specs.Runs.{instructions_line}
 
 seven : (a b c d e f g : List ℕ) → a ++ b ++ c ++ d ++ e ++ f ++ g ≡ a ++ (b ++ (c ++ (d ++ (e ++ (f ++ g)))))
 seven a b c d e f g =

@@ -29,10 +29,8 @@ use Rattle.sts_whole.proofs.Laws.{reaches, faultless, run_exists}
 use Rattle.run_tool.specs.declared.ending.Ending.{Ending}
 use Rattle.run_tool.specs.declared.ending.Ending.TheVariants.{Gave, Cut}
 use Rattle.run_tool.specs.Answers.{Answer, runs, Concludes, of_devices, of_sink}
-use Rattle.run_tool.specs.Runs.{run_status}
-use Rattle.run_tool.specs.inner.Finishing.{ending_of, counted_behind, ending_by, FinishesRun}
-use Rattle.run_tool.specs.Run.{RunsProgram}
-use Rattle.run_tool.specs.Statistics.{asked_behind, instructions_line}
+use Rattle.run_tool.specs.Runs.{run_status, RunsProgram, asked_behind, asked_text, instructions_line}
+use Rattle.run_tool.specs.inner.Handed.{ending_of, ending_by, FinishesRun}
 use Rattle.board_ports.specs.Account.{Account}
 
 -- where more stands behind, the text that is due may be longer
@@ -41,6 +39,10 @@ due-more behind more [] text e =
     (behind ++ more, refl, λ part h. let q : IsPrefix part behind = subst (λ t. IsPrefix part t) e h in (q.0 ++ more, sym (append_assoc part q.0 more) ∙ ap (λ x. x ++ more) q.1))
 due-more behind more (Seen o ∷ rest) text e = (text, e, λ part h. h)
 due-more behind more (Unplugged port ∷ rest) text e = absurd e
+
+-- what stands behind a transcript by what was counted of the run, and the HEX text
+abbrev pub counted_behind : (stats with_image : Bool) → Stats → (hex : List ℕ) → List ℕ
+counted_behind stats with_image s hex = asked_text stats with_image (stats_line s.spawned s.blocked s.words s.seats) (instructions_line s.instructions ++ hex)
 
 -- what is asked for, where both are
 pub behind-both : (asked also : Bool) (s : Stats) (hex : List ℕ) → asked ≡ true → also ≡ true

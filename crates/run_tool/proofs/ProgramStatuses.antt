@@ -11,17 +11,14 @@ use Rattle.event_script.specs.declared.script.Script.{Script}
 use Rattle.sts_whole.specs.Accepting.{Accepts, IsRefusedFor}
 use Rattle.sts_whole.specs.Laws.{OneAnswer}
 use Rattle.sts_whole.proofs.Laws.{faultless}
-use Rattle.run_tool.specs.Fetches.{Telling, unfailing}
+use Rattle.run_tool.specs.Files.{Telling, unfailing}
 use Rattle.run_tool.specs.Answers.{Answer, status_of, status_number}
-use Rattle.run_tool.specs.Runs.{run_status}
+use Rattle.run_tool.specs.Runs.{run_status, RunsProgram, IsProgramStatus}
 use Rattle.run_tool.specs.Scripts.{OverScript, default_script}
-use Rattle.run_tool.specs.Programs.{OverProgram}
-use Rattle.run_tool.specs.Check.{SaysAccepted}
-use Rattle.run_tool.specs.Build.{WritesImage}
-use Rattle.run_tool.specs.Run.{RunsProgram}
+use Rattle.run_tool.specs.Programs.{OverProgram, WritesImage}
 use Rattle.run_tool.specs.RunAt.{RunsOutside}
 use Rattle.run_tool.specs.Laws.{ProgramStatuses}
-use Rattle.run_tool.specs.Runs.{IsProgramStatus}
+use Rattle.run_tool.proofs.Readings.{SaysAccepted}
 
 abbrev number_of : Answer → ℕ
 number_of answer = status_number (status_of answer)

@@ -1,15 +1,20 @@
 -- Files that are fetched and read, and the answers to them.
 use Rattle.std.proofs.Common.{◌≡◌, ◌≤◌, ℕ, List, inl, inr, refl, subst}
-use Rattle.std.specs.Prelude.{Option}
+use Rattle.std.specs.Prelude.{Option, codes}
 use Rattle.board_world.specs.Observations.{ByteList}
 use Rattle.sts_syntax.specs.TypedTrees.{TypedProgram}
 use Rattle.tool_io.proofs.Laws.{rose-before, rose-after}
 use Rattle.run_tool.specs.declared.fetched.Fetched.{Fetched}
 use Rattle.run_tool.specs.declared.fetched.Fetched.TheVariants.{Text, Absent, Long, Failed}
-use Rattle.run_tool.specs.Answers.{Answer}
-use Rattle.run_tool.specs.Fetches.{ToldFiles, told_by, unfailing, MayFetch}
-use Rattle.run_tool.specs.Files.{AnswersFetched, AnswersFile}
+use Rattle.run_tool.specs.declared.ending.Status.TheVariants.{Done}
+use Rattle.run_tool.specs.Answers.{Answer, says}
+use Rattle.run_tool.specs.Files.{ToldFiles, told_by, unfailing, MayFetch, AnswersFetched, AnswersFile}
 use Rattle.run_tool.specs.Programs.{OverProgram}
+use Rattle.run_tool.specs.inner.Handed.{HasText}
+
+-- `check` says that a program is accepted
+abbrev pub SaysAccepted : TypedProgram → List ByteList → Answer → Type 0
+SaysAccepted P texts answer = answer ≡ says Done (codes "accepted\n")
 
 -- a folder tells the same, and failed no less
 abbrev pub IsOnward : ToldFiles → ToldFiles → Type 0
@@ -24,6 +29,10 @@ fetch-onwards files files' name (Text bytes) on m = subst (λ (t : Option (Optio
 fetch-onwards files files' name Absent on m = subst (λ (t : Option (Option (List ℕ))). MayFetch (record { told = λ file. t; rose = files'.rose }) name Absent) (on.0 name) m
 fetch-onwards files files' name Long on m = subst (λ (t : Option (Option (List ℕ))). MayFetch (record { told = λ file. t; rose = files'.rose }) name Long) (on.0 name) m
 fetch-onwards files files' name Failed on m = on.1 m
+
+-- a text that was fetched was fetched then too
+pub text-kept : (files files' : ToldFiles) → IsOnward files files' → (name : List ℕ) (Such : List ℕ → Type 0) → HasText files name Such → HasText files' name Such
+text-kept files files' on name Such s = (s.0, fetch-onwards files files' name (Text s.0) on s.1, s.2)
 
 -- over a folder in the first part of a call, or in the last one, and in the whole of it
 module _ {S : Type 0} (holds : S → List ℕ → Option (Option (List ℕ))) (faults : S → ℕ) (old mid new : S) where

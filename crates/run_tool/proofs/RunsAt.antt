@@ -1,6 +1,6 @@
 -- Runs of a program with arrivals.
 use Rattle.std.proofs.Common.{◌≡◌, ◌≤◌, ℕ, List, [], ◌++◌, inl, inr, refl, sym, ap, ◌∙◌, subst, append_assoc, codes, decimal}
-use Rattle.std.specs.Prelude.{Option, Some, None, Result, Err}
+use Rattle.std.specs.Prelude.{Option, Some, None, Result, Ok, Err}
 use Rattle.serde_json.specs.Data.{Data}
 use Rattle.sts_base.specs.Faults.{Rose}
 use Rattle.tool_io.specs.Putting.{Took}
@@ -27,19 +27,15 @@ use Rattle.run_tool.specs.declared.ending.Ending.TheVariants.{Gave, Cut}
 use Rattle.run_tool.specs.declared.fetched.Fetched.TheVariants.{Text}
 use Rattle.run_tool.specs.Answers.{Answer, runs, Concludes, of_devices, of_sink}
 use Rattle.run_tool.specs.Runs.{run_status}
-use Rattle.run_tool.specs.inner.Finishing.{ending_of}
+use Rattle.run_tool.specs.inner.Handed.{ending_of, HasText, none_to_read}
 use Rattle.run_tool.specs.Scripts.{AnswersScript}
-use Rattle.run_tool.specs.Files.{AnswersFile}
-use Rattle.run_tool.specs.Arrivals.{AnswersArrivals, RefusesArrivals, arrivals_refused_line}
-use Rattle.run_tool.specs.Fetches.{ToldFiles}
-use Rattle.run_tool.specs.inner.Handed.{IsArrivalsOf}
-use Rattle.run_tool.specs.inner.Nothing.{none_to_read}
-use Rattle.run_tool.specs.RunAt.{RunsProgramAt, RunsOnScript, RunsOutside, RunsTextAt}
+use Rattle.run_tool.specs.Files.{AnswersFile, ToldFiles, code_line}
+use Rattle.run_tool.specs.RunAt.{AnswersArrivals, RefusesArrivals, RunsProgramAt, RunsOnScript, RunsOutside, RunsTextAt}
 use Rattle.run_tool.proofs.Readings.{IsOnward, file-onwards, file-more, program-more}
 use Rattle.board_ports.specs.Account.{Account}
 
-pub arrivals-refusal-pieces : (printed code : ℕ) → printed ≡ code → [] ++ codes "arrivals refused " ++ decimal printed ++ codes "\n" ≡ arrivals_refused_line code
-arrivals-refusal-pieces printed code e = append_assoc (codes "arrivals refused ") (decimal printed) (codes "\n") ∙ ap arrivals_refused_line e
+pub arrivals-refusal-pieces : (printed code : ℕ) → printed ≡ code → [] ++ codes "arrivals refused " ++ decimal printed ++ codes "\n" ≡ code_line (codes "arrivals refused ") code
+arrivals-refusal-pieces printed code e = append_assoc (codes "arrivals refused ") (decimal printed) (codes "\n") ∙ ap (code_line (codes "arrivals refused ")) e
 
 -- why arrivals are refused
 pub refuses-arrivals : (text : List ℕ) (r : Result (List Arrival) ArrivalRefused) (code : ArrivalCode) → r ≡ Err (OfArrivals code)
@@ -60,7 +56,7 @@ no-arrivals files name answers answer h = file-more (AnswersArrivals none_to_rea
     by_text text (inr x) = inr x
 
 -- the answers over the arrivals that are named
-pub over-arrivals : (files : ToldFiles) (name : List ℕ) (answers : List Arrival → Answer → Type 0) (come : List Arrival) (answer : Answer) → IsArrivalsOf files name come
+pub over-arrivals : (files : ToldFiles) (name : List ℕ) (answers : List Arrival → Answer → Type 0) (come : List Arrival) (answer : Answer) → HasText files name (λ text. Tells text (Ok come))
     → answers come answer → AnswersFile files name (AnswersArrivals answers) answer
 over-arrivals files name answers come answer s h = (Text s.0, s.1, inl (come, s.2, h))
 

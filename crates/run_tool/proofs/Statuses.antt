@@ -5,12 +5,10 @@ use Rattle.board_world.specs.Observations.{End, Quietly, By_script, Panicked, Fa
 use Rattle.hex_image.specs.declared.refused.HexCode.{HexCode}
 use Rattle.hex_image.specs.Spells.{Spells, Breaks}
 use Rattle.hex_image.proofs.Laws.{one_reading-of}
-use Rattle.run_tool.specs.Fetches.{Telling, unfailing}
+use Rattle.run_tool.specs.Files.{Telling, unfailing}
 use Rattle.run_tool.specs.Answers.{Answer, status_of, status_number}
-use Rattle.run_tool.specs.Runs.{run_status}
-use Rattle.run_tool.specs.RunHex.{RunsHex}
+use Rattle.run_tool.specs.Runs.{run_status, RunsHex, IsImageStatus}
 use Rattle.run_tool.specs.Laws.{HexStatuses}
-use Rattle.run_tool.specs.Runs.{IsImageStatus}
 
 pub run-number : (end : Option End) (number : ℕ) → number ≡ status_number (run_status end) → IsImageStatus number
 run-number None number e = inr (inr (inl e))

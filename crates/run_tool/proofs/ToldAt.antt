@@ -25,13 +25,11 @@ use Rattle.sts_whole.specs.Laws.{OneAnswer}
 use Rattle.sts_words.specs.Orders.{Asked, run_at}
 use Rattle.run_tool.specs.declared.ending.Ending.{Ending}
 use Rattle.run_tool.specs.declared.ending.Ending.TheVariants.{Gave, Cut, NoMemory}
-use Rattle.run_tool.specs.Fetches.{Telling, ToldFiles, unfailing}
+use Rattle.run_tool.specs.Files.{Telling, ToldFiles, unfailing}
 use Rattle.run_tool.specs.Answers.{Answer, status_of, status_number, output_of, OfSink, OfDevices, Leaves, CommandEnds, Concludes, ending_number}
 use Rattle.run_tool.specs.Runs.{run_status}
-use Rattle.run_tool.specs.Arrivals.{AnswersArrivals, RefusesArrivals}
-use Rattle.run_tool.specs.RunAt.{RunsProgramAt, RunsOnScript, RunsOutside}
+use Rattle.run_tool.specs.RunAt.{AnswersArrivals, RefusesArrivals, RunsProgramAt, RunsOnScript, RunsOutside, AreTold, WritesAt, HeadlineAt}
 use Rattle.run_tool.specs.Orders.{MayAnswer, lead_of}
-use Rattle.run_tool.specs.HeadlineAt.{AreTold, WritesAt, HeadlineAt}
 use Rattle.run_tool.proofs.Completing.{onwards}
 use Rattle.run_tool.proofs.Headlines.{one-tree, file-told, script-told, program-file-told, never}
 use Rattle.run_tool.proofs.ProgramStatuses.{run-number}

@@ -19,12 +19,10 @@ use Rattle.sts_words.specs.Orders.{Asked, run_class}
 use Rattle.run_tool.specs.declared.ending.Ending.{Ending}
 use Rattle.run_tool.specs.declared.ending.Ending.TheVariants.{Gave, Cut, NoMemory}
 use Rattle.run_tool.specs.Answers.{Answer, status_of, status_number, output_of, OfSink, OfDevices, Leaves, CommandEnds, Concludes, ending_number}
-use Rattle.run_tool.specs.Fetches.{Telling, ToldFiles, unfailing}
-use Rattle.run_tool.specs.ClassFiles.{RefusesClass}
-use Rattle.run_tool.specs.ClassBoards.{BoardSource, OverBoardProgram, Unfit, no_script, other_end, IsUnfit, AnswersBoardScript, OverBoardScript, OverBoard, OverBoards}
-use Rattle.run_tool.specs.Class.{RunsClass, RunsFile, RunsClassText}
+use Rattle.run_tool.specs.Files.{Telling, ToldFiles, unfailing}
+use Rattle.run_tool.specs.ClassBoards.{RefusesClass, BoardSource, OverBoardProgram, Unfit, no_script, other_end, IsUnfit, AnswersBoardScript, OverBoardScript, OverBoard, OverBoards}
+use Rattle.run_tool.specs.Class.{RunsClass, RunsFile, RunsClassText, IsToldBoard, IsToldClass, HeadlineClass}
 use Rattle.run_tool.specs.Orders.{MayAnswer, lead_of}
-use Rattle.run_tool.specs.HeadlineClass.{IsToldBoard, IsToldClass, HeadlineClass}
 use Rattle.run_tool.proofs.Completing.{onwards}
 use Rattle.run_tool.proofs.Headlines.{one-tree, one-script, not-refused, file-told, program-fits, never}
 use Rattle.run_tool.proofs.ToldAt.{not-both, same-read}

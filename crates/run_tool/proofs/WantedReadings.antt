@@ -2,6 +2,7 @@
 use Rattle.std.proofs.Common.{◌≡◌, ◌<◌, ◌+◌, ℕ, List, [], ◌∷◌, ◌++◌, length, inl, inr, refl, sym, ap, ◌∙◌, subst, take, drop, get_or}
 use Rattle.std.proofs.lemmas.List.{take_more, drop_more, take-append-drop}
 use Rattle.std.specs.Prelude.{Option, Some, None}
+use Rattle.std.specs.Option.{option_to_list}
 use Rattle.sts_base.specs.declared.refused.Code.{Code}
 use Rattle.sts_base.specs.declared.tables.Tables.{Tables}
 use Rattle.board_world.specs.Simulation.{Paired}
@@ -21,17 +22,13 @@ use Rattle.run_tool.specs.declared.fetched.Fetched.TheVariants.{Text}
 use Rattle.run_tool.specs.declared.ending.Ending.{Ending}
 use Rattle.run_tool.specs.declared.ending.Ending.TheVariants.{NoMemory}
 use Rattle.run_tool.specs.Answers.{Answer}
-use Rattle.run_tool.specs.inner.Giving.{GivesOneOf}
-use Rattle.run_tool.specs.Fetches.{ToldFiles}
-use Rattle.run_tool.specs.RunHex.{images}
+use Rattle.run_tool.specs.inner.Handed.{GivesOneOf, none_to_read, IsScriptOf, names_of_boards, wants_never, HasText, IsSourceOf, AreReady}
+use Rattle.run_tool.specs.Files.{ToldFiles}
+use Rattle.run_tool.specs.Runs.{images}
 use Rattle.run_tool.specs.Programs.{programs, OverProgram}
-use Rattle.run_tool.specs.inner.Nothing.{none_to_read, none_to_programs, none_to_boards}
 use Rattle.run_tool.specs.Scripts.{scripts, AnswersScript}
-use Rattle.run_tool.specs.inner.Handed.{IsScriptOf, names_given, names_of_boards, wants_never}
-use Rattle.run_tool.specs.ClassFiles.{classes, AnswersClassFile}
-use Rattle.run_tool.specs.ClassBoards.{BoardSource, OverBoardProgram, Unfit, IsUnfit, board_scripts, AnswersBoardScript}
+use Rattle.run_tool.specs.ClassBoards.{classes, AnswersClassFile, BoardSource, OverBoardProgram, Unfit, IsUnfit, board_scripts, AnswersBoardScript}
 use Rattle.run_tool.specs.declared.class_boards.Boards.{Boards}
-use Rattle.run_tool.specs.inner.ClassReady.{IsImageOf, IsSourceOf, AreReady}
 use Rattle.run_tool.specs.Wanted.{HasAsked, Onwards, OrLacks, WantsBoards, WantsFile, WantsScript, wants_none}
 use Rattle.run_tool.proofs.Readings.{IsOnward, fetch-onwards}
 use Rattle.run_tool.proofs.ClassAnswers.{source-onwards}
@@ -48,18 +45,18 @@ broken text why code e cause next = inr (code, subst (λ x. HasCause x (Breaks t
 
 module _ {S : Type 0} {taken : S → Option (List ℕ)} {faults : S → ℕ} {old new : S} (text : List ℕ) (ending : Ending) where
   -- a text is no program, nor that of a board,
-  pub program-stops : (next : Tables × TypedProgram → List (List ℕ) → Type 0) → GivesOneOf taken faults old new (OverProgram none_to_programs text) ending → OrLacks (ending ≡ NoMemory) (Onwards programs next text) []
-  program-stops next g = stops programs next text (OverProgram none_to_programs text) ending by_answer g
+  pub program-stops : (next : Tables × TypedProgram → List (List ℕ) → Type 0) → GivesOneOf taken faults old new (OverProgram (λ P. none_to_read) text) ending → OrLacks (ending ≡ NoMemory) (Onwards programs next text) []
+  program-stops next g = stops programs next text (OverProgram (λ P. none_to_read) text) ending by_answer g
     where
-      by_answer : (answer : Answer) → OverProgram none_to_programs text answer → (cause : Code × ℕ) × programs.refuses text cause
+      by_answer : (answer : Answer) → OverProgram (λ P. none_to_read) text answer → (cause : Code × ℕ) × programs.refuses text cause
       by_answer answer (inl h) = absurd h.2
       by_answer answer (inr h) = (h.0, h.1)
 
-  pub board-program-stops : (b : ℕ) (next : Tables × TypedProgram → List (List ℕ) → Type 0) → GivesOneOf taken faults old new (OverBoardProgram b none_to_boards text) ending
+  pub board-program-stops : (b : ℕ) (next : Tables × TypedProgram → List (List ℕ) → Type 0) → GivesOneOf taken faults old new (OverBoardProgram b (λ tables. none_to_read) text) ending
       → OrLacks (ending ≡ NoMemory) (Onwards programs next text) []
-  board-program-stops b next g = stops programs next text (OverBoardProgram b none_to_boards text) ending by_answer g
+  board-program-stops b next g = stops programs next text (OverBoardProgram b (λ tables. none_to_read) text) ending by_answer g
     where
-      by_answer : (answer : Answer) → OverBoardProgram b none_to_boards text answer → (cause : Code × ℕ) × programs.refuses text cause
+      by_answer : (answer : Answer) → OverBoardProgram b (λ tables. none_to_read) text answer → (cause : Code × ℕ) × programs.refuses text cause
       by_answer answer (inl h) = absurd h.2
       by_answer answer (inr h) = (h.0, h.1)
 
@@ -89,7 +86,7 @@ module _ {S : Type 0} {taken : S → Option (List ℕ)} {faults : S → ℕ} {ol
 
 module _ (files : ToldFiles) (lacking : Type 0) where
   -- a script that was read
-  pub script-read : (name : Option (List ℕ)) (script : Script) → IsScriptOf files name script → WantsScript files lacking name wants_none (names_given name)
+  pub script-read : (name : Option (List ℕ)) (script : Script) → IsScriptOf files name script → WantsScript files lacking name wants_none (option_to_list name)
   script-read None script h = refl
   script-read (Some name) script h = (refl, inl (Text h.0, h.1, inl (script, h.2, refl)))
 
@@ -101,7 +98,7 @@ module _ (files : ToldFiles) (lacking : Type 0) where
     board-read : (n : Names) (boards : List Names) (board : BoardSource) (next : List (List ℕ) → Type 0) (more : List (List ℕ)) → IsSourceOf files until n board → WantsBoards files lacking until boards next more
         → WantsBoards files lacking until (n ∷ boards) next (n.program ∷ n.script ∷ more)
     board-read n boards board next more s h =
-        (refl, inl (Text s.text, s.fetched, inl ((board.tables, board.program), s.accepted, (refl, inl (Text s.script.text, s.script.fetched, inl (board.script, (s.script.is, s.script.ends), h))))))
+        (refl, inl (Text s.program.0, s.program.1, inl ((board.tables, board.program), s.program.2, (refl, inl (Text s.script.0, s.script.1, inl (board.script, (s.script.2, s.ends), h))))))
 
     -- of boards that are, and then those behind
     pub boards-read : (done : List Names) (sources : List BoardSource) (boards : List Names) (next : List (List ℕ) → Type 0) (more : List (List ℕ)) → Paired (IsSourceOf files until) done sources
@@ -123,15 +120,15 @@ script-kept files files' name script on h = (h.0, fetch-onwards files files' nam
 
 -- a board's script was asked for behind its program, of which an image was built, and nothing is behind it
 module _ {S : Type 0} (asked : S → List (List ℕ)) (old mid new : S) (files files' : ToldFiles) (on : IsOnward files files') (lacking : Type 0) (until : ℕ) (n : Names) where
-  pub script-asked : (image : List ℕ) → IsImageOf files' n.program image → asked mid ≡ asked old ++ n.program ∷ []
+  pub script-asked : (image : List ℕ) → HasText files' n.program (λ text. Builds text image) → asked mid ≡ asked old ++ n.program ∷ []
       → HasAsked asked mid new (WantsFile files lacking n.script (Onwards (board_scripts until) (λ script. wants_never)))
       → HasAsked asked old new (WantsBoards files' lacking until (n ∷ []) wants_never)
   script-asked image i e h =
       (let never = Onwards (board_scripts until) (λ script. wants_never) in
       let next = WantsFile files' lacking n.script never in
       asked-behind asked old mid new n.program (WantsFile files lacking n.script never) (WantsFile files' lacking n.program (Onwards programs (λ read. next))) e
-      (λ more x. file-fetched files' lacking n.program (Onwards programs (λ read. next)) i.text i.text.items more refl i.fetched
-      (inl (accepted i.text.items image i.builds (λ read. next) more
+      (λ more x. file-fetched files' lacking n.program (Onwards programs (λ read. next)) i.0 i.0.items more refl i.1
+      (inl (accepted i.0.items image i.2 (λ read. next) more
       (file-more files files' lacking lacking on (λ l. l) n.script never never more (λ text names y. y) x)))) h)
 
 -- of the names of a list of boards, the first of which are ready: those of one more, and of all up to one that stops

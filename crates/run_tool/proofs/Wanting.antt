@@ -12,16 +12,13 @@ use Rattle.run_tool.specs.declared.fetched.Fetched.TheVariants.{Text, Absent, Lo
 use Rattle.run_tool.specs.declared.ending.Ending.{Ending}
 use Rattle.run_tool.specs.declared.ending.Ending.TheVariants.{Gave, Cut, NoMemory}
 use Rattle.run_tool.specs.Answers.{Answer, says}
-use Rattle.run_tool.specs.inner.Giving.{GivesOneOf}
-use Rattle.run_tool.specs.Fetches.{ToldFiles, told_by, MayFetch}
-use Rattle.run_tool.specs.Files.{Reading}
+use Rattle.run_tool.specs.inner.Handed.{GivesOneOf, names_of_boards, wants_never}
+use Rattle.run_tool.specs.Files.{ToldFiles, told_by, MayFetch, Reading}
 use Rattle.run_tool.specs.Programs.{programs}
 use Rattle.run_tool.specs.Scripts.{scripts}
-use Rattle.run_tool.specs.RunHex.{images}
-use Rattle.run_tool.specs.ClassFiles.{classes}
-use Rattle.run_tool.specs.ClassBoards.{board_scripts}
-use Rattle.run_tool.specs.Wanted.{HasAsked, Onwards, OrLacks, Wants, WantsBehind, WantsBoards, WantsFile, WantsOutside, WantsScript, none_behind, wants_none}
-use Rattle.run_tool.specs.inner.Handed.{names_of_boards, never_behind}
+use Rattle.run_tool.specs.Runs.{images}
+use Rattle.run_tool.specs.ClassBoards.{classes, board_scripts}
+use Rattle.run_tool.specs.Wanted.{HasAsked, Onwards, OrLacks, Wants, WantsBehind, WantsBoards, WantsFile, WantsOutside, WantsScript, wants_none}
 use Rattle.run_tool.proofs.Readings.{IsOnward, fetch-onwards, first-part}
 
 -- ---- the names that a folder was asked for
@@ -92,8 +89,8 @@ module _ (files files' : ToldFiles) (lacking lacking' : Type 0) (on : IsOnward f
 
   pub outside-more : (script arrivals : List ℕ) (names : List (List ℕ)) → WantsOutside files lacking script arrivals names → WantsOutside files' lacking' script arrivals names
   outside-more script arrivals names h =
-      script-more (Some script) (WantsFile files lacking arrivals none_behind) (WantsFile files' lacking' arrivals none_behind) names
-      (λ names x. file-more arrivals none_behind none_behind names (λ text names y. y) x) h
+      script-more (Some script) (WantsFile files lacking arrivals (λ text. wants_none)) (WantsFile files' lacking' arrivals (λ text. wants_none)) names
+      (λ names x. file-more arrivals (λ text. wants_none) (λ text. wants_none) names (λ text names y. y) x) h
 
   pub boards-more : (until : ℕ) (boards : List Names) (next more : List (List ℕ) → Type 0) (names : List (List ℕ)) → ((names : List (List ℕ)) → next names → more names)
       → WantsBoards files lacking until boards next names → WantsBoards files' lacking' until boards more names
@@ -106,8 +103,8 @@ module _ (files files' : ToldFiles) (lacking lacking' : Type 0) (on : IsOnward f
 
   pub wants-more : (asked : Option Asked) (names : List (List ℕ)) → Wants files lacking asked names → Wants files' lacking' asked names
   wants-more None names h = h
-  wants-more (Some (check_program name)) names h = file-more name none_behind none_behind names (λ text names x. x) h
-  wants-more (Some (build_program name)) names h = file-more name none_behind none_behind names (λ text names x. x) h
+  wants-more (Some (check_program name)) names h = file-more name (λ text. wants_none) (λ text. wants_none) names (λ text names x. x) h
+  wants-more (Some (build_program name)) names h = file-more name (λ text. wants_none) (λ text. wants_none) names (λ text names x. x) h
   wants-more (Some (run_program name script budget stats image)) names h =
       read-more programs name (λ read. WantsScript files lacking script wants_none) (λ read. WantsScript files' lacking' script wants_none) names
       (λ read names x. script-more script wants_none wants_none names (λ names y. y) x) h
@@ -142,8 +139,8 @@ file-fetched files lacking name next bytes text more e m (inr l) = (refl, inr l)
 
 -- none was
 pub file-missed : (files : ToldFiles) (lacking : Type 0) (name : List ℕ) (next : List ℕ → List (List ℕ) → Type 0) (names : List (List ℕ))
-    → WantsFile files lacking name never_behind names → WantsFile files lacking name next names
-file-missed files lacking name next names h = file-more files files lacking lacking (λ file. refl, λ r. r) (λ l. l) name never_behind next names (λ text names x. absurd x) h
+    → WantsFile files lacking name (λ text. wants_never) names → WantsFile files lacking name next names
+file-missed files lacking name next names h = file-more files files lacking lacking (λ file. refl, λ r. r) (λ l. l) name (λ text. wants_never) next names (λ text names x. absurd x) h
 
 -- a file's text, and what is behind it, over a folder that is asked for the one and then for the other
 module _ {S : Type 0} (asked : S → List (List ℕ)) (holds : S → List ℕ → Option (Option (List ℕ))) (faults : S → ℕ) (old mid new : S) where

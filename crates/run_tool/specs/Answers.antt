@@ -11,7 +11,6 @@ use Rattle.run_tool.specs.declared.ending.Status.TheVariants.{Done, Usage, Panic
 use Rattle.run_tool.specs.declared.ending.Ending.{Ending}
 use Rattle.run_tool.specs.declared.ending.Ending.TheVariants.{Gave, Cut, NoMemory}
 use Rattle.board_ports.specs.Account.{Account}
-use Rattle.run_tool.specs.Fetches.{ToldFiles}
 
 -- What a call is to give behind the line that its command begins with: an output, over which the devices stay; or a run, by what it showed and
 -- unplugged in order, and by what is written behind the lines of that.
@@ -64,10 +63,6 @@ of_sink taken faults old new = record {
   faults_after = faults new;
 }
 
--- Neither the folder's count of faults rose nor the sink's.
-abbrev pub NeitherFails : ToldFiles → OfSink → Type 0
-NeitherFails files sink = ¬ files.rose × ¬ Rose sink.faults_before sink.faults_after
-
 -- Of devices, before and after a call: which stood in which place; and what is known of each.
 pub record OfDevices (B : Type 0) : Type 0 where
   pub account : B → Account
@@ -90,6 +85,12 @@ IsAnswerCut sink devices lead (runs status moves behind) =
     (TookPart sink.taken_before sink.taken_after lead × (devices.after ≡ devices.before))
     ⊎ Stopped devices.account lead moves behind sink.taken_before sink.taken_after devices.before devices.after
 
+-- Nothing was written, or this line alone, and the devices are as they were.
+abbrev pub WroteNothing : {B : Type 0} → OfSink → OfDevices B → (lead : List ℕ) → Type 0
+WroteNothing sink devices lead =
+    (Took sink.taken_before sink.taken_after [] ⊎ Took sink.taken_before sink.taken_after lead)
+    × (devices.after ≡ devices.before)
+
 -- A call that begins with this line and may give these answers ended so: one answer was given whole, or was cut short; or memory was wanting, before
 -- anything was written or behind that line.
 abbrev pub CommandEnds : {B : Type 0} → OfSink → OfDevices B
@@ -98,8 +99,7 @@ CommandEnds sink devices lead may (Gave status) =
     (answer : Answer) × may answer × (status ≡ status_of answer)
     × Took sink.taken_before sink.taken_after (lead ++ output_of answer) × Leaves devices answer
 CommandEnds sink devices lead may Cut = (answer : Answer) × may answer × IsAnswerCut sink devices lead answer
-CommandEnds sink devices lead may NoMemory =
-    (Took sink.taken_before sink.taken_after [] ⊎ Took sink.taken_before sink.taken_after lead) × (devices.after ≡ devices.before)
+CommandEnds sink devices lead may NoMemory = WroteNothing sink devices lead
 
 -- It ended so; the sink's count of faults didn't fall, and rose where the answer was cut short.
 pub record Concludes {B : Type 0} (sink : OfSink) (devices : OfDevices B) (lead : List ℕ)

@@ -1,7 +1,6 @@
--- The run of a class as an answer.
-use Rattle.std.specs.Prelude.{◌≡◌, ◌⊎◌, ◌==◌, ℕ, List, map, if◌then◌else◌}
+-- The run of a class as an answer, and what `class C` comes to where nothing fails: the boards' sources are stepped together through time, and each hears what the others send.
+use Rattle.std.specs.Prelude.{◌≡◌, ◌⊎◌, ◌==◌, ℕ, List, map, if◌then◌else◌, [], Option, Some, Ok}
 use Rattle.board_world.specs.Observations.{ByteList}
-use Rattle.board_world.specs.Board.{Board}
 use Rattle.sts_meaning.specs.Frames.{Activity}
 use Rattle.sts_meaning.specs.Heaps.{Heap}
 use Rattle.sts_meaning.specs.Steps.{source, empty}
@@ -17,12 +16,17 @@ use Rattle.class_meaning.specs.Meaning.{HasTextCutWithin}
 use Rattle.class_radio.specs.Losses.{lost_by}
 use Rattle.class_radio.specs.Playing.{Setup}
 use Rattle.class_radio.specs.Outcome.{class_of_parts, is_panic, how_many_end}
+use Rattle.tool_io.specs.Putting.{Took}
+use Rattle.class_file.specs.Verdict.{Tells}
+use Rattle.class_file.specs.declared.class.Names.{Names}
+use Rattle.sts_words.specs.Orders.{Asked, run_class}
 use Rattle.run_tool.specs.declared.ending.Status.{Status}
 use Rattle.run_tool.specs.declared.ending.Status.TheVariants.{Done, Panicked, OutOfBudget}
-use Rattle.run_tool.specs.Answers.{Answer, says}
-use Rattle.run_tool.specs.Fetches.{ToldFiles}
-use Rattle.run_tool.specs.ClassFiles.{AnswersClassFile}
-use Rattle.run_tool.specs.ClassBoards.{BoardSource, OverBoards}
+use Rattle.run_tool.specs.Answers.{Answer, says, status_of, output_of, status_number, OfSink, OfDevices}
+use Rattle.run_tool.specs.Files.{ToldFiles, Telling, NeitherFails, IsToldWithin}
+use Rattle.run_tool.specs.ClassBoards.{AnswersClassFile, BoardSource, OverBoards}
+use Rattle.run_tool.specs.Programs.{IsToldProgram}
+use Rattle.run_tool.specs.Scripts.{IsToldScript}
 
 -- a board of a class, of which the program's source is run
 abbrev pub source_member : BoardSource → world.Member Activity Heap
@@ -39,12 +43,9 @@ source_member board =
 abbrev pub class_of_sources : ClassFile → List BoardSource → world.Class Activity Heap
 class_of_sources file boards = record { members = map source_member boards; until = file.end; lost = lost_by file.lose }
 
--- the status of a class whose runs have all ended, so many of them by a panic; and of which these are the boards
+-- the status of a class whose runs have all ended, so many of them by a panic
 abbrev pub status_by : ℕ → Status
 status_by panics = if panics == 0 then Done else Panicked
-
-abbrev pub class_status : List Board → Status
-class_status boards = status_by (how_many_end is_panic boards)
 
 -- an image of bytes that fits into flash implements the program of a board, and runs on the board's script
 pub record IsBuiltAs (board : BoardSource) (setup : Setup) : Type 0 where
@@ -65,7 +66,7 @@ pub record RunsWhole (file : ClassFile) (boards : List BoardSource) (budget : �
   pub text : ByteList
   pub has : HasWholeText (class_of_sources file boards) budget text
   pub images : ImagesRun file boards (λ class. HasWholeText class budget text)
-  pub is : answer ≡ says (class_status (boards_now file.end has.runs)) text
+  pub is : answer ≡ says (status_by (how_many_end is_panic (boards_now file.end has.runs))) text
 
 -- The answer is the class's text that is cut in a board's run, which hasn't ended: no board's source has made more counted steps than the budget, and this one has made one at least for each 512 of it; no image has
 -- executed more instructions than the budget, and one that goes on has executed as many.
@@ -86,3 +87,26 @@ RunsFile files budget file =
 
 abbrev pub RunsClassText : ToldFiles → (budget : ℕ) → List ℕ → Answer → Type 0
 RunsClassText files budget = AnswersClassFile (RunsFile files budget)
+
+-- The files of a board are told: a text that is accepted as its program, and its script, which ends with the class.
+pub record IsToldBoard (told : Telling) (until : ℕ) (names : Names) (board : BoardSource) : Type 0 where
+  pub program : IsToldProgram told names.program board.tables board.program
+  pub script : IsToldScript told (Some names.script) board.script
+  pub ends : board.script.end ≡ until
+
+-- The file of this name is told and stands for a class, and so are the files of its boards.
+pub record IsToldClass (told : Telling) (name : List ℕ) (file : ClassFile) (boards : List BoardSource) : Type 0 where
+  pub is : IsToldWithin told name (λ text. Tells text (Ok file))
+  pub are : Paired (IsToldBoard told file.end) file.boards boards
+
+-- The claim, of a call with these words, for a class that is told: where no count of faults rose, of the folder or the sink, no device changed; and there was no memory, and nothing was written; or the run of the
+-- class was, whole, with status 0, or 3 where some board panicked; or cut where a board's budget ended, with status 4.
+abbrev pub HeadlineClass : {B : Type 0} → ToldFiles → OfSink → OfDevices B → Option Asked → ℕ → Type 0
+HeadlineClass files sink devices asked number =
+    (name : List ℕ) (budget : ℕ) (file : ClassFile) (boards : List BoardSource)
+    → asked ≡ Some (run_class name budget) → IsToldClass files.told name file boards
+    → NeitherFails files sink
+    → (devices.after ≡ devices.before)
+    × (((number ≡ 30) × Took sink.taken_before sink.taken_after [])
+    ⊎ ((answer : Answer) × RunsClass file boards budget answer × (number ≡ status_number (status_of answer))
+    × Took sink.taken_before sink.taken_after (output_of answer)))

@@ -1,22 +1,41 @@
--- The answers over the boards of a class: their programs and scripts, in their order.
-use Rattle.std.specs.Prelude.{◌≡◌, ◌≢◌, ◌++◌, ℕ, suc, List, [], ◌∷◌, Ok}
+-- The answers over the file of a class, and over its boards: their programs and scripts, in their order.
+use Rattle.std.specs.Prelude.{◌≡◌, ◌≢◌, ◌++◌, ℕ, suc, List, [], ◌∷◌, codes, Ok, Err}
+use Rattle.serde_json.specs.Data.{Data}
 use Rattle.sts_base.specs.declared.tables.Tables.{Tables}
 use Rattle.class_world.specs.Lines.{board_lead}
 use Rattle.sts_syntax.specs.TypedTrees.{TypedProgram}
 use Rattle.event_script.specs.declared.script.Script.{Script}
 use Rattle.event_script.specs.declared.script.ScriptCode.{ScriptCode}
 use Rattle.event_script.specs.Codes.{number_of}
+use Rattle.event_script.specs.Json.{IsTree}
 use Rattle.event_script.specs.Verdict.{Tells}
 use Rattle.class_file.specs.declared.class.Names.{Names}
-use Rattle.class_file.specs.declared.class.ClassCode.TheVariants.{EndDiffers}
+use Rattle.class_file.specs.declared.class.ClassFile.{ClassFile}
+use Rattle.class_file.specs.declared.class.ClassCode.{ClassCode}
+use Rattle.class_file.specs.declared.class.ClassCode.TheVariants.{NotJson, EndDiffers}
+use Rattle.class_file.specs.Codes as class_codes
+use Rattle.class_file.specs.Verdict as class_file
 use Rattle.run_tool.specs.declared.ending.Status.TheVariants as status
 use Rattle.run_tool.specs.Answers.{Answer, says, Led}
-use Rattle.run_tool.specs.Fetches.{ToldFiles}
-use Rattle.run_tool.specs.Files.{AnswersFile, AnswersRead, Reading}
-use Rattle.run_tool.specs.Programs.{programs}
-use Rattle.run_tool.specs.Refusals.{AnswersRefusal}
-use Rattle.run_tool.specs.Scripts.{RefusesScript, script_refused_line}
-use Rattle.run_tool.specs.ClassFiles.{refuses_class}
+use Rattle.run_tool.specs.Files.{ToldFiles, AnswersFile, AnswersRead, Reading, code_line}
+use Rattle.run_tool.specs.Programs.{AnswersRefusal, programs}
+use Rattle.run_tool.specs.Scripts.{RefusesScript}
+
+-- The bytes stand for no class, by this code first: they are no JSON, or their tree breaks the code's rule.
+abbrev pub RefusesClass : List ℕ → ClassCode → Type 0
+RefusesClass text NotJson = (tree : Data) → ¬ (IsTree text tree)
+RefusesClass text code = class_file.Tells text (Err code)
+
+abbrev pub refuses_class : ClassCode → Answer
+refuses_class code = says status.ClassRefused (code_line (codes "class refused ") (class_codes.number_of code))
+
+-- a text stands for a class, or for none by a code
+abbrev pub classes : Reading ClassFile ClassCode
+classes = record { stands_for = λ text class. class_file.Tells text (Ok class); refuses = RefusesClass }
+
+-- the answers to the text of a class, by those over the class
+abbrev pub AnswersClassFile : (ClassFile → Answer → Type 0) → List ℕ → Answer → Type 0
+AnswersClassFile = AnswersRead classes (λ text code answer. answer ≡ refuses_class code)
 
 -- a board of a class by its source: a program with its texts, and a script
 pub record BoardSource : Type 0 where
@@ -50,7 +69,7 @@ board_scripts until = record {
 -- what is told of board b's script that doesn't serve: the code behind the board's number, or that the end differs
 abbrev pub TellsUnfit : (b : ℕ) → Unfit → Answer → Type 0
 TellsUnfit b (no_script code) answer =
-    answer ≡ says status.ScriptRefused (board_lead b ++ script_refused_line (number_of code))
+    answer ≡ says status.ScriptRefused (board_lead b ++ code_line (codes "script refused ") (number_of code))
 TellsUnfit b (other_end script) answer = answer ≡ refuses_class EndDiffers
 
 -- the answers to the text of board b's script, by those over the script

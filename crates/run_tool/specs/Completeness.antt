@@ -6,16 +6,17 @@ use Rattle.hex_image.specs.Spells.{Spells}
 use Rattle.event_script.specs.declared.script.Script.{Script}
 use Rattle.sts_whole.specs.Accepting.{Accepts}
 use Rattle.sts_words.specs.Orders.{Asked, check_program, build_program, run_program, run_image, run_at, run_class, run_big}
-use Rattle.run_tool.specs.Answers.{OfSink, NeitherFails}
-use Rattle.run_tool.specs.Fetches.{ToldFiles, Telling}
-use Rattle.run_tool.specs.Told.{IsToldWithin, IsToldProgram, IsToldScript}
+use Rattle.run_tool.specs.Answers.{OfSink}
+use Rattle.run_tool.specs.Files.{ToldFiles, Telling, NeitherFails, IsToldWithin}
+use Rattle.run_tool.specs.Programs.{IsToldProgram}
+use Rattle.run_tool.specs.Scripts.{IsToldScript}
 use Rattle.run_tool.specs.Big.{big_text}
 use Rattle.run_tool.specs.Runs.{IsProgramStatus, IsImageStatus}
 use Rattle.arrival_file.specs.declared.arrival.Arrival.{Arrival}
-use Rattle.run_tool.specs.HeadlineAt.{AreTold}
+use Rattle.run_tool.specs.RunAt.{AreTold}
 use Rattle.class_file.specs.declared.class.ClassFile.{ClassFile}
 use Rattle.run_tool.specs.ClassBoards.{BoardSource}
-use Rattle.run_tool.specs.HeadlineClass.{IsToldClass}
+use Rattle.run_tool.specs.Class.{IsToldClass}
 
 -- The file of this name has the text of some program that is accepted; or there is some script.
 abbrev pub HoldsProgram : Telling → List ℕ → Type 0

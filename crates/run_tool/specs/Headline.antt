@@ -15,13 +15,12 @@ use Rattle.board_run.specs.Ran.{world_after, IsExecuted}
 use Rattle.sts_whole.specs.Accepting.{Accepts}
 use Rattle.sts_whole.specs.Programs.{source_after}
 use Rattle.sts_words.specs.Orders.{Asked, run_program, run_big}
-use Rattle.run_tool.specs.Answers.{OfSink, NeitherFails, OfDevices, status_number}
-use Rattle.run_tool.specs.Fetches.{ToldFiles, Telling}
-use Rattle.run_tool.specs.Told.{IsToldProgram, IsToldScript}
-use Rattle.run_tool.specs.Scripts.{default_script}
+use Rattle.run_tool.specs.Answers.{OfSink, OfDevices, WroteNothing, status_number}
+use Rattle.run_tool.specs.Files.{ToldFiles, Telling, NeitherFails}
+use Rattle.run_tool.specs.Programs.{IsToldProgram}
+use Rattle.run_tool.specs.Scripts.{IsToldScript, default_script}
 use Rattle.run_tool.specs.Big.{big_line, big_text}
-use Rattle.run_tool.specs.Statistics.{asked_behind}
-use Rattle.run_tool.specs.Runs.{run_status}
+use Rattle.run_tool.specs.Runs.{asked_behind, run_status}
 
 -- A run of a program that words ask for.
 pub record AskedRun : Type 0 where
@@ -42,12 +41,6 @@ AsksForRun told (Some (run_big size budget stats)) r =
     Accepts (big_text size) r.tables r.program × (r.script ≡ default_script)
     × (r.budget ≡ budget) × (r.lead ≡ big_line size) × (r.with_stats ≡ stats) × (r.with_image ≡ false)
 AsksForRun told other r = ⊥
-
--- There was no memory: nothing was written, or what stands before the transcript alone, and the devices are as they were.
-abbrev pub LacksMemory : {B : Type 0} → AskedRun → OfSink → OfDevices B → (number : ℕ) → Type 0
-LacksMemory r sink devices number =
-    (number ≡ 30) × (Took sink.taken_before sink.taken_after [] ⊎ Took sink.taken_before sink.taken_after r.lead)
-    × (devices.after ≡ devices.before)
 
 -- what the source of a run's program has shown after so many counted steps, the clock, and how it has ended, if it has
 abbrev pub source_board : AskedRun → ℕ → Board
@@ -77,11 +70,11 @@ pub record IsRunOfImage (r : AskedRun) (steps executed : ℕ) (image : List ℕ)
   pub is_executed : IsExecuted (world_after image r.script free) r.budget executed
   pub board : source_board r steps ≡ (world_after image r.script free executed).board
 
--- The claim, of a call with these words: where neither the folder's count of faults rose nor the sink's, there was no memory; or the transcript of the program's source was written, and that is the run
--- of an image.
+-- The claim, of a call with these words: where neither the folder's count of faults rose nor the sink's, there was no memory, and nothing was written but what stands before the transcript; or the transcript of
+-- the program's source was written, and that is the run of an image.
 abbrev pub Headline : {B : Type 0} → ToldFiles → OfSink → OfDevices B → Option Asked → ℕ → Type 0
 Headline files sink devices asked number =
     (r : AskedRun) → AsksForRun files.told asked r → NeitherFails files sink
-    → LacksMemory r sink devices number
+    → ((number ≡ 30) × WroteNothing sink devices r.lead)
     ⊎ ((steps executed : ℕ) × (image : List ℕ)
     × IsTranscript r sink devices number steps executed image × IsRunOfImage r steps executed image)

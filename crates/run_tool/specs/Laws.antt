@@ -9,13 +9,10 @@ use Rattle.sts_whole.specs.Accepting.{Accepts, IsRefusedFor}
 use Rattle.hex_image.specs.declared.refused.HexCode.{HexCode}
 use Rattle.hex_image.specs.Spells.{Spells, Breaks}
 use Rattle.run_tool.specs.Answers.{Answer, output_of}
-use Rattle.run_tool.specs.Fetches.{Telling, unfailing}
-use Rattle.run_tool.specs.Check.{ChecksText}
-use Rattle.run_tool.specs.Build.{BuildsText}
-use Rattle.run_tool.specs.Runs.{IsProgramStatus, IsImageStatus}
-use Rattle.run_tool.specs.Run.{RunsText}
+use Rattle.run_tool.specs.Files.{Telling, unfailing}
+use Rattle.run_tool.specs.Programs.{ChecksText, BuildsText}
+use Rattle.run_tool.specs.Runs.{IsProgramStatus, IsImageStatus, RunsText, RunsHex}
 use Rattle.run_tool.specs.RunAt.{RunsTextAt}
-use Rattle.run_tool.specs.RunHex.{RunsHex}
 use Rattle.run_tool.specs.Orders.{IsStatusOf}
 
 -- The status of an answer of `run-hex` is that of a run where the text spells an image and no script is named, and that of a refusal where the text

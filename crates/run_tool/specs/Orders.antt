@@ -2,14 +2,11 @@
 use Rattle.std.specs.Prelude.{◌≡◌, ◌⊎◌, ℕ, false, List, [], codes, Option, Some, None, IsSome}
 use Rattle.run_tool.specs.declared.ending.Status.TheVariants.{Usage}
 use Rattle.sts_words.specs.Orders.{Asked, check_program, build_program, run_program, run_image, run_at, run_class, run_big}
-use Rattle.run_tool.specs.Answers.{Answer, OfSink, NeitherFails, says, status_of, status_number}
-use Rattle.run_tool.specs.Fetches.{ToldFiles, unfailing}
-use Rattle.run_tool.specs.Files.{AnswersFile}
+use Rattle.run_tool.specs.Answers.{Answer, OfSink, says, status_of, status_number}
+use Rattle.run_tool.specs.Files.{ToldFiles, unfailing, NeitherFails, AnswersFile}
 use Rattle.run_tool.specs.Big.{big_line, big_text}
-use Rattle.run_tool.specs.Run.{RunsText}
-use Rattle.run_tool.specs.Check.{ChecksText}
-use Rattle.run_tool.specs.Build.{BuildsText}
-use Rattle.run_tool.specs.RunHex.{RunsHex}
+use Rattle.run_tool.specs.Programs.{ChecksText, BuildsText}
+use Rattle.run_tool.specs.Runs.{RunsText, RunsHex}
 use Rattle.run_tool.specs.RunAt.{RunsTextAt}
 use Rattle.run_tool.specs.Class.{RunsClassText}
 
@@ -42,12 +39,7 @@ abbrev pub CompletesCommand : ToldFiles → OfSink → Option Asked → ℕ → 
 CompletesCommand files sink asked number =
     NeitherFails files sink → IsStatusOf (MayAnswer (unfailing files.told) asked) number ⊎ (number ≡ 30)
 
--- Words ask to check, build or run a program, or the one of `big`, or those of a class;
-abbrev pub IsOfProgram : Asked → Type 0
-IsOfProgram (run_image name script budget) = ⊥
-IsOfProgram other = Unit {0}
-
--- or to run an image.
+-- Words ask to run an image; if not, to check, build or run a program, or the one of `big`, or those of a class.
 abbrev pub IsOfImage : Asked → Type 0
 IsOfImage (run_image name script budget) = Unit {0}
 IsOfImage other = ⊥

@@ -4,13 +4,11 @@ use Rattle.class_file.specs.declared.class.Names.{Names}
 use Rattle.sts_words.specs.Orders.{Asked, check_program, build_program, run_program, run_image, run_at, run_class, run_big}
 use Rattle.run_tool.specs.declared.fetched.Fetched.{Fetched}
 use Rattle.run_tool.specs.declared.fetched.Fetched.TheVariants.{Text}
-use Rattle.run_tool.specs.Fetches.{ToldFiles, MayFetch}
-use Rattle.run_tool.specs.Files.{Reading}
+use Rattle.run_tool.specs.Files.{ToldFiles, MayFetch, Reading}
 use Rattle.run_tool.specs.Programs.{programs}
 use Rattle.run_tool.specs.Scripts.{scripts}
-use Rattle.run_tool.specs.RunHex.{images}
-use Rattle.run_tool.specs.ClassFiles.{classes}
-use Rattle.run_tool.specs.ClassBoards.{board_scripts}
+use Rattle.run_tool.specs.Runs.{images}
+use Rattle.run_tool.specs.ClassBoards.{classes, board_scripts}
 
 -- Behind the names that a folder was asked for before, `asked old`, come those of this list, of which this holds.
 abbrev pub HasAsked : {S : Type 0} → (S → List (List ℕ)) → S → S → (List (List ℕ) → Type 0) → Type 0
@@ -19,9 +17,6 @@ HasAsked asked old new such = (names : List (List ℕ)) × (asked new ≡ asked 
 -- nothing is fetched
 abbrev pub wants_none : List (List ℕ) → Type 0
 wants_none names = names ≡ []
-
-abbrev pub none_behind : List ℕ → List (List ℕ) → Type 0
-none_behind text names = names ≡ []
 
 -- Behind a text of such a kind these are fetched, by what it stands for; and nothing is where it stands for nothing.
 abbrev pub Onwards : {T C : Type 0} → Reading T C → (T → List (List ℕ) → Type 0) → List ℕ → List (List ℕ) → Type 0
@@ -54,7 +49,7 @@ module _ (files : ToldFiles) (lacking : Type 0) where
 
   -- a script's and that of arrivals, of these names;
   abbrev pub WantsOutside : (script arrivals : List ℕ) → List (List ℕ) → Type 0
-  WantsOutside script arrivals = WantsScript (Some script) (WantsFile arrivals none_behind)
+  WantsOutside script arrivals = WantsScript (Some script) (WantsFile arrivals (λ text. wants_none))
 
   -- and the program's and the script's of each board of a class with this end, one after the other.
   abbrev pub WantsBoards : (until : ℕ) → List Names → (List (List ℕ) → Type 0) → List (List ℕ) → Type 0
@@ -66,8 +61,8 @@ module _ (files : ToldFiles) (lacking : Type 0) where
   -- What is fetched for what the words ask for, if they are taken.
   abbrev pub Wants : Option Asked → List (List ℕ) → Type 0
   Wants None = wants_none
-  Wants (Some (check_program name)) = WantsFile name none_behind
-  Wants (Some (build_program name)) = WantsFile name none_behind
+  Wants (Some (check_program name)) = WantsFile name (λ text. wants_none)
+  Wants (Some (build_program name)) = WantsFile name (λ text. wants_none)
   Wants (Some (run_program name script budget stats image)) =
       WantsFile name (Onwards programs (λ read. WantsScript script wants_none))
   Wants (Some (run_image name script budget)) =

@@ -1,5 +1,5 @@
 // The arrivals that a command names.
-ghost use Rattle.std.specs.Prelude.{◌≡◌, ◌≤◌, Ok, IfOk, IfErr, OnOk, IsErrOf};
+ghost use Rattle.std.specs.Prelude.{◌≡◌, ◌≤◌, Ok, IfOk, IfErr, OnOk, IsErrOf, codes};
 ghost use Rattle.sts_base.specs.Faults.{Rose};
 ghost use Rattle.tool_io.specs.Putting.{PutsTo};
 ghost use Rattle.arrival_file.specs.Codes.{number_of};
@@ -7,13 +7,10 @@ ghost use Rattle.arrival_file.specs.Sound.{IsSound};
 ghost use Rattle.arrival_file.specs.Verdict.{Tells};
 ghost use Rattle.run_tool.specs.declared.ending.Status.TheVariants as status;
 ghost use Rattle.run_tool.specs.Answers.{IsFailureTold, says};
-ghost use Rattle.run_tool.specs.inner.Giving.{GivesOneOf};
-ghost use Rattle.run_tool.specs.inner.Handed.{IsArrivalsOf};
-ghost use Rattle.run_tool.specs.Arrivals.{AnswersArrivals, arrivals_refused_line};
-ghost use Rattle.run_tool.specs.inner.Nothing.{none_to_read};
-ghost use Rattle.run_tool.specs.Wanted.{HasAsked, WantsFile, none_behind};
-ghost use Rattle.run_tool.specs.Fetches.{told_by};
-ghost use Rattle.run_tool.specs.Files.{AnswersFile};
+ghost use Rattle.run_tool.specs.inner.Handed.{GivesOneOf, HasText, none_to_read};
+ghost use Rattle.run_tool.specs.RunAt.{AnswersArrivals};
+ghost use Rattle.run_tool.specs.Files.{code_line, told_by, AnswersFile};
+ghost use Rattle.run_tool.specs.Wanted.{HasAsked, WantsFile, wants_none};
 
 use crate::ending::{Ending, Status};
 use crate::fetched::text_of;
@@ -25,7 +22,7 @@ use tool_io::{PutFailed, Sink, then_put, then_put_decimal};
 
 /// Puts the line of a refusal of arrivals: the code's number.
 fn put_arrivals_refused<K: Sink>(out: &mut K, code: ArrivalCode) -> Result<(), PutFailed>
-    ensures { PutsTo K.taken K.faults out.old out.new (arrivals_refused_line (number_of code)) result }
+    ensures { PutsTo K.taken K.faults out.old out.new (code_line (codes "arrivals refused ") (number_of code)) result }
 {
     let put = then_put(Ok(()), out, b"arrivals refused ");
     let put = then_put_decimal(put, out, u32::from(code.number()));
@@ -35,7 +32,8 @@ fn put_arrivals_refused<K: Sink>(out: &mut K, code: ArrivalCode) -> Result<(), P
 /// Gives the answer that a text stands for no arrivals.
 fn say_arrivals_refused<K: Sink>(out: &mut K, code: ArrivalCode) -> Ending
     ensures { GivesOneOf K.taken K.faults out.old out.new
-        (λ answer. answer ≡ says status.ArrivalsRefused (arrivals_refused_line (number_of code))) result }
+        (λ answer. answer ≡ says status.ArrivalsRefused
+        (code_line (codes "arrivals refused ") (number_of code))) result }
 {
     match put_arrivals_refused(out, code) {
         Ok(()) => Ending::Gave(Status::ArrivalsRefused),
@@ -65,14 +63,15 @@ pub fn arrivals_of<F: Folder, K: Sink>(
     folder: &mut F,
     out: &mut K,
 ) -> Result<Seq<Arrival>, Ending>
-    ensures arrivals { IfOk result (IsArrivalsOf (told_by F.holds F.faults folder.old folder.new) name.now) }
+    ensures arrivals { IfOk result (λ come. HasText (told_by F.holds F.faults folder.old folder.new) name.now
+        (λ text. Tells text (Ok come))) }
     ensures sound { IfOk result IsSound }
     ensures unwritten { OnOk result (K.taken out.new ≡ K.taken out.old) }
     ensures none { IfErr result (GivesOneOf K.taken K.faults out.old out.new
         (AnswersFile (told_by F.holds F.faults folder.old folder.new) name.now (AnswersArrivals none_to_read))) }
     ensures asked { HasAsked F.asked folder.old folder.new
         (WantsFile (told_by F.holds F.faults folder.old folder.new) (IsErrOf result Ending.NoMemory)
-        name.now none_behind) }
+        name.now (λ text. wants_none)) }
     ensures folder_later { F.faults folder.old ≤ F.faults folder.new }
     ensures unfailed { OnOk result (F.faults folder.new ≡ F.faults folder.old) }
     ensures failure { IfErr result (λ ending. IsFailureTold (F.faults folder.old) (F.faults folder.new) ending) }

@@ -8,12 +8,10 @@ ghost use Rattle.sts_whole.specs.Accepting as accepting;
 ghost use Rattle.sts_implements.specs.Images.{ImageImplements};
 ghost use Rattle.sts_words.specs.Orders.{IsBudget};
 ghost use Rattle.run_tool.specs.Answers.{Concludes, Led, of_devices, of_sink};
-ghost use Rattle.run_tool.specs.inner.Giving.{GivesOneOf};
+ghost use Rattle.run_tool.specs.inner.Handed.{GivesOneOf, none_to_read};
 ghost use Rattle.run_tool.specs.Big as spec;
-ghost use Rattle.run_tool.specs.Programs.{OverProgram};
-ghost use Rattle.run_tool.specs.inner.Nothing.{none_to_programs};
-ghost use Rattle.run_tool.specs.Refusals.{AnswersRefusal};
-ghost use Rattle.run_tool.specs.Run.{RunsProgram};
+ghost use Rattle.run_tool.specs.Programs.{OverProgram, AnswersRefusal};
+ghost use Rattle.run_tool.specs.Runs.{RunsProgram};
 ghost use Rattle.run_tool.specs.Scripts.{default_script};
 
 use crate::ending::{Ending, Status};
@@ -132,7 +130,7 @@ fn refuse_big<K: Sink>(out: &mut K, size: u32, text: &[u8], code: Code, at: u32)
 fn say_big_refused<K: Sink>(out: &mut K, size: u32, text: &[u8], why: Refused) -> Ending
     requires { accepting.RefusesText text.now why }
     ensures { GivesOneOf K.taken K.faults out.old out.new
-        (Led (spec.big_line size) (OverProgram none_to_programs text.now)) result }
+        (Led (spec.big_line size) (OverProgram (λ P. none_to_read) text.now)) result }
 {
     refusals_stand_in_their_texts();
     match why {

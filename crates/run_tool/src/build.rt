@@ -7,14 +7,10 @@ ghost use Rattle.sts_implements.specs.Images.{ImageImplements};
 ghost use Rattle.sts_whole.specs.Built.{Builds};
 ghost use Rattle.sts_base.specs.Faults.{Rose};
 ghost use Rattle.run_tool.specs.Answers.{IsFailureTold};
-ghost use Rattle.run_tool.specs.inner.Giving.{GivesOneOf};
-ghost use Rattle.run_tool.specs.Programs.{OverProgram};
-ghost use Rattle.run_tool.specs.inner.Nothing.{none_to_programs};
-ghost use Rattle.run_tool.specs.Build.{BuildsText, WritesImage};
-ghost use Rattle.run_tool.specs.inner.Handed.{FoundNoMemory};
-ghost use Rattle.run_tool.specs.Wanted.{HasAsked, WantsFile, none_behind};
-ghost use Rattle.run_tool.specs.Fetches.{told_by};
-ghost use Rattle.run_tool.specs.Files.{AnswersFile};
+ghost use Rattle.run_tool.specs.inner.Handed.{GivesOneOf, none_to_read, FoundNoMemory};
+ghost use Rattle.run_tool.specs.Programs.{OverProgram, BuildsText, WritesImage};
+ghost use Rattle.run_tool.specs.Wanted.{HasAsked, WantsFile, wants_none};
+ghost use Rattle.run_tool.specs.Files.{told_by, AnswersFile};
 
 use crate::ending::{Ending, Status};
 use crate::fetched::text_of;
@@ -29,7 +25,8 @@ use tool_io::Sink;
 pub fn image_of<K: Sink>(alloc: Global, text: &[u8], out: &mut K) -> Result<Vec<u8>, Ending>
     ensures built { IfOk result (λ image. Builds text.now image.items) }
     ensures unwritten { OnOk result (K.taken out.new ≡ K.taken out.old) }
-    ensures none { IfErr result (GivesOneOf K.taken K.faults out.old out.new (OverProgram none_to_programs text.now)) }
+    ensures none { IfErr result (GivesOneOf K.taken K.faults out.old out.new
+        (OverProgram (λ P. none_to_read) text.now)) }
     ensures later { K.faults out.old ≤ K.faults out.new }
 {
     match sts_whole::build(alloc, text) {
@@ -65,7 +62,8 @@ pub fn build<F: Folder, K: Sink>(alloc: Global, name: &str, folder: &mut F, out:
     ensures answer { GivesOneOf K.taken K.faults out.old out.new
         (AnswersFile (told_by F.holds F.faults folder.old folder.new) name.now BuildsText) result }
     ensures asked { HasAsked F.asked folder.old folder.new
-        (WantsFile (told_by F.holds F.faults folder.old folder.new) (FoundNoMemory result) name.now none_behind) }
+        (WantsFile (told_by F.holds F.faults folder.old folder.new) (FoundNoMemory result)
+        name.now (λ text. wants_none)) }
     ensures folder_later { F.faults folder.old ≤ F.faults folder.new }
     ensures failure { IsFailureTold (F.faults folder.old) (F.faults folder.new) result }
 {

@@ -2,12 +2,10 @@
 ghost use Rattle.std.specs.Prelude.{◌≡◌, ◌≤◌};
 ghost use Rattle.sts_base.specs.Faults.{Rose};
 ghost use Rattle.run_tool.specs.Answers.{IsFailureTold};
-ghost use Rattle.run_tool.specs.inner.Giving.{GivesOneOf};
-ghost use Rattle.run_tool.specs.Check.{ChecksText};
-ghost use Rattle.run_tool.specs.inner.Handed.{FoundNoMemory};
-ghost use Rattle.run_tool.specs.Wanted.{HasAsked, WantsFile, none_behind};
-ghost use Rattle.run_tool.specs.Fetches.{told_by};
-ghost use Rattle.run_tool.specs.Files.{AnswersFile};
+ghost use Rattle.run_tool.specs.inner.Handed.{GivesOneOf, FoundNoMemory};
+ghost use Rattle.run_tool.specs.Programs.{ChecksText};
+ghost use Rattle.run_tool.specs.Wanted.{HasAsked, WantsFile, wants_none};
+ghost use Rattle.run_tool.specs.Files.{told_by, AnswersFile};
 
 use crate::ending::{Ending, Status};
 use crate::fetched::text_of;
@@ -32,7 +30,8 @@ pub fn check<F: Folder, K: Sink>(alloc: Global, name: &str, folder: &mut F, out:
     ensures answer { GivesOneOf K.taken K.faults out.old out.new
         (AnswersFile (told_by F.holds F.faults folder.old folder.new) name.now ChecksText) result }
     ensures asked { HasAsked F.asked folder.old folder.new
-        (WantsFile (told_by F.holds F.faults folder.old folder.new) (FoundNoMemory result) name.now none_behind) }
+        (WantsFile (told_by F.holds F.faults folder.old folder.new) (FoundNoMemory result)
+        name.now (λ text. wants_none)) }
     ensures folder_later { F.faults folder.old ≤ F.faults folder.new }
     ensures failure { IsFailureTold (F.faults folder.old) (F.faults folder.new) result }
 {

@@ -1,5 +1,5 @@
 // The boards of a class: the program and the script of each, one after the other.
-ghost use Rattle.std.specs.Prelude.{◌≡◌, ◌≢◌, ◌≤◌, ◌<◌, ◌++◌, ◌∷◌, [], ℕ, List, Ok, IfOk, IfErr, OnOk, All, length};
+ghost use Rattle.std.specs.Prelude.{◌≡◌, ◌≢◌, ◌≤◌, ◌<◌, ◌++◌, ◌∷◌, [], ℕ, List, Some, Ok, IfOk, IfErr, OnOk, All, length, codes};
 ghost use Rattle.std.specs.Str.{IsUtf8};
 ghost use Rattle.sts_base.specs.Faults.{Rose};
 ghost use Rattle.sts_whole.specs.Accepting as accepting;
@@ -12,19 +12,12 @@ ghost use Rattle.class_file.specs.Within.{AreTexts};
 ghost use Rattle.class_file.specs.declared.class.ClassCode.TheVariants as class_code;
 ghost use Rattle.run_tool.specs.declared.ending.Status.TheVariants as status;
 ghost use Rattle.run_tool.specs.Answers.{IsFailureTold, Led, says};
-ghost use Rattle.run_tool.specs.inner.Giving.{GivesOneOf};
-ghost use Rattle.run_tool.specs.Files.{AnswersFile};
-ghost use Rattle.run_tool.specs.inner.Nothing.{none_to_read, none_to_boards};
-ghost use Rattle.run_tool.specs.Refusals.{AnswersRefusal};
-ghost use Rattle.run_tool.specs.Scripts.{script_refused_line};
-ghost use Rattle.run_tool.specs.ClassFiles.{refuses_class};
-ghost use Rattle.run_tool.specs.ClassBoards.{OverBoardProgram, OverBoardScript, OverBoard, OverBoards, AnswersBoardScript, board_scripts};
+ghost use Rattle.run_tool.specs.inner.Handed.{GivesOneOf, none_to_read, HasText, IsScriptOf, HasAdded, AreReady, FoundNoMemory, names_of_boards, wants_never};
+ghost use Rattle.run_tool.specs.Files.{AnswersFile, told_by, code_line};
+ghost use Rattle.run_tool.specs.Programs.{AnswersRefusal, programs};
+ghost use Rattle.run_tool.specs.ClassBoards.{refuses_class, OverBoardProgram, OverBoardScript, OverBoard, OverBoards, AnswersBoardScript, board_scripts};
 ghost use Rattle.class_world.specs.Lines.{board_lead};
-ghost use Rattle.run_tool.specs.inner.ClassReady.{IsImageOf, IsBoardScript, HasAdded, AreReady};
 ghost use Rattle.run_tool.specs.Wanted.{HasAsked, WantsBoards, Onwards, WantsFile};
-ghost use Rattle.run_tool.specs.inner.Handed.{FoundNoMemory, names_of_boards, wants_never};
-ghost use Rattle.run_tool.specs.Fetches.{told_by};
-ghost use Rattle.run_tool.specs.Programs.{programs};
 
 use crate::classes::say_class_refused;
 use crate::ending::{Ending, Status};
@@ -86,7 +79,8 @@ fn refuse_program<K: Sink>(out: &mut K, number: u32, text: &[u8], code: Code, at
 /// The same for this reason; without memory nothing is given.
 fn say_program_refused<K: Sink>(out: &mut K, number: u32, text: &[u8], why: Refused) -> Ending
     requires { accepting.RefusesText text.now why }
-    ensures { GivesOneOf K.taken K.faults out.old out.new (OverBoardProgram number none_to_boards text.now) result }
+    ensures { GivesOneOf K.taken K.faults out.old out.new
+        (OverBoardProgram number (λ tables. none_to_read) text.now) result }
 {
     refusals_stand_in_their_texts();
     match why {
@@ -105,7 +99,7 @@ fn image_in<K: Sink>(
     ensures built { IfOk result (λ image. Builds text.now image.items) }
     ensures unwritten { OnOk result (K.taken out.new ≡ K.taken out.old) }
     ensures none { IfErr result (GivesOneOf K.taken K.faults out.old out.new
-        (OverBoardProgram number none_to_boards text.now)) }
+        (OverBoardProgram number (λ tables. none_to_read) text.now)) }
     ensures later { K.faults out.old ≤ K.faults out.new }
 {
     match build(alloc, text) {
@@ -122,12 +116,12 @@ fn image_of<F: Folder, K: Sink>(
     folder: &mut F,
     out: &mut K,
 ) -> Result<Vec<u8>, Ending>
-    ensures image { IfOk result
-        (λ image. IsImageOf (told_by F.holds F.faults folder.old folder.new) name.now image.items) }
+    ensures image { IfOk result (λ image. HasText (told_by F.holds F.faults folder.old folder.new) name.now
+        (λ text. Builds text image.items)) }
     ensures unwritten { OnOk result (K.taken out.new ≡ K.taken out.old) }
     ensures none { IfErr result (GivesOneOf K.taken K.faults out.old out.new
         (AnswersFile (told_by F.holds F.faults folder.old folder.new) name.now
-        (OverBoardProgram number none_to_boards))) }
+        (OverBoardProgram number (λ tables. none_to_read)))) }
     ensures asked { OnOk result (F.asked folder.new ≡ F.asked folder.old ++ name.now ∷ []) }
     ensures stopped { IfErr result (λ ending. HasAsked F.asked folder.old folder.new
         (WantsFile (told_by F.holds F.faults folder.old folder.new) (FoundNoMemory ending) name.now
@@ -147,7 +141,7 @@ fn image_of<F: Folder, K: Sink>(
 /// Puts the line of a refusal of a board's script, behind its number: the code's number.
 fn put_script_refused<K: Sink>(out: &mut K, number: u32, code: ScriptCode) -> Result<(), PutFailed>
     ensures { PutsTo K.taken K.faults out.old out.new
-        (board_lead number ++ script_refused_line (number_of code)) result }
+        (board_lead number ++ code_line (codes "script refused ") (number_of code)) result }
 {
     let put = put_number(out, number);
     let put = then_put(put, out, b"script refused ");
@@ -159,7 +153,7 @@ fn put_script_refused<K: Sink>(out: &mut K, number: u32, code: ScriptCode) -> Re
 fn say_script_refused<K: Sink>(out: &mut K, number: u32, code: ScriptCode) -> Ending
     ensures { GivesOneOf K.taken K.faults out.old out.new
         (λ answer. answer ≡ says status.ScriptRefused
-        (board_lead number ++ script_refused_line (number_of code))) result }
+        (board_lead number ++ code_line (codes "script refused ") (number_of code))) result }
 {
     match put_script_refused(out, number, code) {
         Ok(()) => Ending::Gave(Status::ScriptRefused),
@@ -214,9 +208,9 @@ fn script_of<F: Folder, K: Sink>(
     folder: &mut F,
     out: &mut K,
 ) -> Result<Script, Ending>
-    ensures script { IfOk result
-        (IsBoardScript (told_by F.holds F.faults folder.old folder.new) board.end name.now) }
+    ensures script { IfOk result (IsScriptOf (told_by F.holds F.faults folder.old folder.new) (Some name.now)) }
     ensures sound { IfOk result IsSound }
+    ensures ends { IfOk result (λ script. script.end ≡ board.end) }
     ensures unwritten { OnOk result (K.taken out.new ≡ K.taken out.old) }
     ensures none { IfErr result (GivesOneOf K.taken K.faults out.old out.new
         (OverBoardScript (told_by F.holds F.faults folder.old folder.new)

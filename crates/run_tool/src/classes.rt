@@ -1,12 +1,12 @@
 // The class that a command names.
-ghost use Rattle.std.specs.Prelude.{◌≡◌, ◌≤◌, Ok, IfOk, IfErr, OnOk, All};
+ghost use Rattle.std.specs.Prelude.{◌≡◌, ◌≤◌, Ok, IfOk, IfErr, OnOk, All, codes};
 ghost use Rattle.tool_io.specs.Putting.{PutsTo};
 ghost use Rattle.class_file.specs.Codes.{number_of};
 ghost use Rattle.class_file.specs.Verdict.{Tells};
 ghost use Rattle.class_file.specs.Within.{AreTexts, IsWithinForm};
-ghost use Rattle.run_tool.specs.inner.Giving.{GivesOneOf};
-ghost use Rattle.run_tool.specs.ClassFiles.{AnswersClassFile, class_refused_line, refuses_class};
-ghost use Rattle.run_tool.specs.inner.Nothing.{none_to_read};
+ghost use Rattle.run_tool.specs.inner.Handed.{GivesOneOf, none_to_read};
+ghost use Rattle.run_tool.specs.ClassBoards.{AnswersClassFile, refuses_class};
+ghost use Rattle.run_tool.specs.Files.{code_line};
 
 use crate::ending::{Ending, Status};
 use class_file::{ClassCode, ClassFile, ClassRefused, read_class};
@@ -15,7 +15,7 @@ use tool_io::{PutFailed, Sink, then_put, then_put_decimal};
 
 /// Puts the line of a refusal of a class: the code's number.
 fn put_class_refused<K: Sink>(out: &mut K, code: ClassCode) -> Result<(), PutFailed>
-    ensures { PutsTo K.taken K.faults out.old out.new (class_refused_line (number_of code)) result }
+    ensures { PutsTo K.taken K.faults out.old out.new (code_line (codes "class refused ") (number_of code)) result }
 {
     let put = then_put(Ok(()), out, b"class refused ");
     let put = then_put_decimal(put, out, u32::from(code.number()));

@@ -5,15 +5,15 @@ ghost use Rattle.sts_base.specs.Faults.{Rose};
 ghost use Rattle.run_tool.specs.declared.ending.Ending.{Ending};
 ghost use Rattle.sts_words.specs.Words.{IsAskedBy};
 ghost use Rattle.run_tool.specs.Answers.{Concludes, IsFailureTold, ending_number, of_devices, of_sink};
-ghost use Rattle.run_tool.specs.Orders.{CompletesCommand, IsOfImage, IsOfProgram, NamesScript, lead_of, MayAnswer};
+ghost use Rattle.run_tool.specs.Orders.{CompletesCommand, IsOfImage, NamesScript, lead_of, MayAnswer};
 ghost use Rattle.run_tool.specs.inner.Handed.{FoundNoMemory};
 ghost use Rattle.run_tool.specs.Headline.{Headline};
 ghost use Rattle.run_tool.specs.Completeness.{IsComplete};
 ghost use Rattle.sts_words.specs.Orders.{Asked, IsInRange, order_view};
-ghost use Rattle.run_tool.specs.HeadlineAt.{HeadlineAt};
-ghost use Rattle.run_tool.specs.HeadlineClass.{HeadlineClass};
+ghost use Rattle.run_tool.specs.RunAt.{HeadlineAt};
+ghost use Rattle.run_tool.specs.Class.{HeadlineClass};
 ghost use Rattle.run_tool.specs.Wanted.{HasAsked, Wants};
-ghost use Rattle.run_tool.specs.Fetches.{told_by};
+ghost use Rattle.run_tool.specs.Files.{told_by};
 
 use crate::big::big;
 use crate::build::build;
@@ -192,7 +192,7 @@ pub fn sts_main<F: Folder, K: Sink>(
         → HeadlineClass (told_by F.holds F.faults folder.old folder.new) (of_sink K.taken K.faults out.old out.new)
         (of_devices ⟦<Box<dyn Device> as Device>⟧.account plugs.old.items plugs.new.items) asked result }
     ensures refused { (asked : Option Asked) → IsAskedBy (map string_bytes words.now) asked
-        → result ≡ 10 → IsSomeAnd asked IsOfProgram }
+        → result ≡ 10 → IsSomeAnd asked (λ order. ¬ IsOfImage order) }
     ensures script_refused { (asked : Option Asked) → IsAskedBy (map string_bytes words.now) asked
         → result ≡ 11 → IsSomeAnd asked NamesScript }
     ensures image_refused { (asked : Option Asked) → IsAskedBy (map string_bytes words.now) asked

@@ -1,13 +1,10 @@
 // The file that a command names.
 ghost use Rattle.std.specs.Prelude.{◌≡◌, ◌≤◌, List, ℕ, Ok, IfOk, IfErr, OnOk, ◌⊎◌, ◌++◌, ◌∷◌, [], OnErr};
-ghost use Rattle.run_tool.specs.inner.Handed.{FoundNoMemory, never_behind};
-ghost use Rattle.run_tool.specs.inner.Giving.{GivesOneOf};
-ghost use Rattle.run_tool.specs.inner.Nothing.{none_to_read};
+ghost use Rattle.run_tool.specs.inner.Handed.{FoundNoMemory, wants_never, GivesOneOf, none_to_read};
 ghost use Rattle.sts_base.specs.Faults.{Rose};
 ghost use Rattle.run_tool.specs.Wanted.{HasAsked, WantsFile};
-ghost use Rattle.run_tool.specs.Fetches.{told_by, MayFetch};
+ghost use Rattle.run_tool.specs.Files.{told_by, MayFetch, AnswersFile};
 ghost use Rattle.run_tool.specs.Answers.{IsFailureTold};
-ghost use Rattle.run_tool.specs.Files.{AnswersFile};
 
 use crate::ending::{Ending, Status};
 use crate::said::say;
@@ -62,7 +59,8 @@ pub fn text_of<F: Folder, K: Sink>(
         (AnswersFile (told_by F.holds F.faults folder.old folder.new) name.now none_to_read)) }
     ensures asked { OnOk result (F.asked folder.new ≡ F.asked folder.old ++ name.now ∷ []) }
     ensures stopped { IfErr result (λ ending. HasAsked F.asked folder.old folder.new
-        (WantsFile (told_by F.holds F.faults folder.old folder.new) (FoundNoMemory ending) name.now never_behind)) }
+        (WantsFile (told_by F.holds F.faults folder.old folder.new) (FoundNoMemory ending)
+        name.now (λ text. wants_never))) }
     ensures stays { (file : List ℕ) → F.holds folder.new file ≡ F.holds folder.old file }
     ensures folder_later { F.faults folder.old ≤ F.faults folder.new }
     ensures unfailed { OnOk result (F.faults folder.new ≡ F.faults folder.old) }

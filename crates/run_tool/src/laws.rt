@@ -3,8 +3,8 @@ ghost use Rattle.std.specs.Prelude.{ℕ, List};
 ghost use Rattle.board_world.specs.Observations.{ByteList};
 ghost use Rattle.sts_syntax.specs.TypedTrees.{TypedProgram};
 ghost use Rattle.run_tool.specs.Answers.{Answer};
-ghost use Rattle.run_tool.specs.Build.{WritesImage};
-ghost use Rattle.run_tool.specs.Fetches.{Telling};
+ghost use Rattle.run_tool.specs.Programs.{WritesImage};
+ghost use Rattle.run_tool.specs.Files.{Telling};
 ghost use Rattle.run_tool.specs.Laws.{HexStatuses, ProgramStatuses, WritesReadable};
 
 use hex_image::round_trip;

@@ -14,14 +14,11 @@ ghost use Rattle.sts_implements.specs.Images.{ImageImplements};
 ghost use Rattle.sts_words.specs.Orders.{IsBudget};
 ghost use Rattle.sts_words.specs.Views.{spoken};
 ghost use Rattle.run_tool.specs.Answers.{Concludes, IsFailureTold, of_devices, of_sink};
-ghost use Rattle.run_tool.specs.inner.Handed.{FoundNoMemory};
+ghost use Rattle.run_tool.specs.inner.Handed.{FoundNoMemory, ending_of, FinishesRun};
 ghost use Rattle.run_tool.specs.Scripts.{OverScript};
-ghost use Rattle.run_tool.specs.inner.Finishing.{ending_of, FinishesRun, counted_behind};
-ghost use Rattle.run_tool.specs.Run.{RunsProgram, RunsText};
-ghost use Rattle.run_tool.specs.Statistics.{instructions_line};
+ghost use Rattle.run_tool.specs.Runs.{RunsProgram, RunsText, asked_text, instructions_line};
 ghost use Rattle.run_tool.specs.Wanted.{HasAsked, Onwards, OrLacks, WantsScript, wants_none, WantsFile};
-ghost use Rattle.run_tool.specs.Fetches.{told_by};
-ghost use Rattle.run_tool.specs.Files.{AnswersFile};
+ghost use Rattle.run_tool.specs.Files.{told_by, AnswersFile};
 ghost use Rattle.run_tool.specs.Programs.{programs};
 
 use crate::build::image_of;
@@ -123,7 +120,9 @@ fn put_asked<K: Sink>(
     hex: &[u8],
 ) -> Result<(), PutFailed>
     ensures { PutsTo K.taken K.faults out.old out.new
-        (counted_behind behind.stats behind.image stats.now hex.now) result }
+        (asked_text behind.stats behind.image
+        (stats_line stats.now.spawned stats.now.blocked stats.now.words stats.now.seats)
+        (instructions_line stats.now.instructions ++ hex.now)) result }
 {
     if behind.stats {
         let put = put_stats(out, stats);
@@ -140,7 +139,9 @@ fn put_asked<K: Sink>(
 /// How a call ends whose run ended so; what is asked for is put behind a run that the sink didn't stop.
 fn finish<K: Sink>(out: &mut K, end: End, behind: AskedBehind, stats: &Stats, hex: &[u8]) -> Ending
     ensures { FinishesRun (K.taken out.old) (K.taken out.new) (K.faults out.old) (K.faults out.new) (ending_of end)
-        (counted_behind behind.stats behind.image stats.now hex.now) result }
+        (asked_text behind.stats behind.image
+        (stats_line stats.now.spawned stats.now.blocked stats.now.words stats.now.seats)
+        (instructions_line stats.now.instructions ++ hex.now)) result }
 {
     match ending_of(end) {
         Ending::Gave(status) => match put_asked(out, behind, stats, hex) {

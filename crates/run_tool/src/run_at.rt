@@ -11,9 +11,8 @@ ghost use Rattle.sts_words.specs.Orders.{IsBudget};
 ghost use Rattle.run_tool.specs.Answers.{Concludes, IsFailureTold, of_devices, of_sink};
 ghost use Rattle.run_tool.specs.inner.Handed.{FoundNoMemory};
 ghost use Rattle.run_tool.specs.RunAt.{RunsProgramAt, RunsOnScript, RunsOutside, RunsTextAt};
-ghost use Rattle.run_tool.specs.Wanted.{HasAsked, Onwards, OrLacks, WantsFile, WantsOutside, none_behind};
-ghost use Rattle.run_tool.specs.Fetches.{told_by};
-ghost use Rattle.run_tool.specs.Files.{AnswersFile};
+ghost use Rattle.run_tool.specs.Wanted.{HasAsked, Onwards, OrLacks, WantsFile, WantsOutside, wants_none};
+ghost use Rattle.run_tool.specs.Files.{told_by, AnswersFile};
 ghost use Rattle.run_tool.specs.Programs.{programs};
 
 use crate::arrivals::arrivals_of;
@@ -107,7 +106,7 @@ fn run_on_script<F: Folder, K: Sink, D: Device>(
         asked.entry.outside.arrivals.now asked.entry.budget P texts setup.script) result }
     ensures asked { HasAsked F.asked folder.old folder.new
         (WantsFile (told_by F.holds F.faults folder.old folder.new) (FoundNoMemory result)
-        asked.entry.outside.arrivals.now none_behind) }
+        asked.entry.outside.arrivals.now (λ text. wants_none)) }
     ensures folder_later { F.faults folder.old ≤ F.faults folder.new }
     ensures failure { IsFailureTold (F.faults folder.old) (F.faults folder.new) result }
 {

@@ -1,5 +1,5 @@
 // The command `run-hex`.
-ghost use Rattle.std.specs.Prelude.{◌≡◌, ◌≤◌, [], List, ℕ, vec_len};
+ghost use Rattle.std.specs.Prelude.{◌≡◌, ◌≤◌, [], List, ℕ, vec_len, codes};
 ghost use Rattle.std.specs.Option.{option_map};
 ghost use Rattle.sts_base.specs.Faults.{Rose};
 ghost use Rattle.tool_io.specs.Putting.{PutsTo};
@@ -10,15 +10,11 @@ ghost use Rattle.sts_words.specs.Orders.{IsBudget};
 ghost use Rattle.sts_words.specs.Views.{spoken};
 ghost use Rattle.run_tool.specs.declared.ending.Status.TheVariants as status;
 ghost use Rattle.run_tool.specs.Answers.{Concludes, IsFailureTold, of_devices, of_sink, says};
-ghost use Rattle.run_tool.specs.inner.Giving.{GivesOneOf};
-ghost use Rattle.run_tool.specs.inner.Handed.{FoundNoMemory};
+ghost use Rattle.run_tool.specs.inner.Handed.{GivesOneOf, FoundNoMemory, ending_of};
 ghost use Rattle.run_tool.specs.Scripts.{OverScript};
-ghost use Rattle.run_tool.specs.Runs.{RunsBoard};
-ghost use Rattle.run_tool.specs.inner.Finishing.{ending_of};
-ghost use Rattle.run_tool.specs.RunHex.{RunsHex, image_refused_line, images};
+ghost use Rattle.run_tool.specs.Runs.{RunsBoard, RunsHex, images};
+ghost use Rattle.run_tool.specs.Files.{code_line, told_by, AnswersFile};
 ghost use Rattle.run_tool.specs.Wanted.{HasAsked, Onwards, OrLacks, WantsScript, wants_none, WantsFile};
-ghost use Rattle.run_tool.specs.Fetches.{told_by};
-ghost use Rattle.run_tool.specs.Files.{AnswersFile};
 
 use crate::ending::{Ending, Status};
 use crate::fetched::text_of;
@@ -35,7 +31,7 @@ use tool_io::{PutFailed, Sink, then_put, then_put_decimal};
 
 /// Puts the line of a refusal of an image: the code's number.
 fn put_image_refused<K: Sink>(out: &mut K, code: HexCode) -> Result<(), PutFailed>
-    ensures { PutsTo K.taken K.faults out.old out.new (image_refused_line (number_of code)) result }
+    ensures { PutsTo K.taken K.faults out.old out.new (code_line (codes "image refused ") (number_of code)) result }
 {
     let put = then_put(Ok(()), out, b"image refused ");
     let put = then_put_decimal(put, out, u32::from(code.number()));
@@ -45,7 +41,7 @@ fn put_image_refused<K: Sink>(out: &mut K, code: HexCode) -> Result<(), PutFaile
 /// Gives the answer that a text spells no image.
 fn say_image_refused<K: Sink>(out: &mut K, code: HexCode) -> Ending
     ensures { GivesOneOf K.taken K.faults out.old out.new
-        (λ answer. answer ≡ says status.ImageRefused (image_refused_line (number_of code))) result }
+        (λ answer. answer ≡ says status.ImageRefused (code_line (codes "image refused ") (number_of code))) result }
 {
     match put_image_refused(out, code) {
         Ok(()) => Ending::Gave(Status::ImageRefused),

@@ -5,10 +5,8 @@ ghost use Rattle.sts_base.specs.Numbers.{number_of};
 ghost use Rattle.sts_whole.specs.Accepting as accepting;
 ghost use Rattle.tool_io.specs.Putting.{Puts};
 ghost use Rattle.run_tool.specs.Answers.{says};
-ghost use Rattle.run_tool.specs.inner.Giving.{GivesOneOf};
-ghost use Rattle.run_tool.specs.Refusals.{AnswersRefusal, refused_line};
-ghost use Rattle.run_tool.specs.Programs.{OverProgram};
-ghost use Rattle.run_tool.specs.inner.Nothing.{none_to_programs};
+ghost use Rattle.run_tool.specs.inner.Handed.{GivesOneOf, none_to_read};
+ghost use Rattle.run_tool.specs.Programs.{AnswersRefusal, refused_line, OverProgram};
 
 use crate::ending::{Ending, Status};
 use sts_base::{Code, Refused, number, place};
@@ -64,7 +62,7 @@ pub fn say_refused<K: Sink>(out: &mut K, text: &[u8], code: Code, at: u32) -> En
 /// Gives the answer that the text is refused for this reason; without memory none.
 pub fn say_refusal<K: Sink>(out: &mut K, text: &[u8], why: Refused) -> Ending
     requires { accepting.RefusesText text.now why }
-    ensures { GivesOneOf K.taken K.faults out.old out.new (OverProgram none_to_programs text.now) result }
+    ensures { GivesOneOf K.taken K.faults out.old out.new (OverProgram (λ P. none_to_read) text.now) result }
 {
     refusals_stand_in_their_texts();
     match why {

@@ -1,6 +1,6 @@
 // The script that a command names.
-ghost use Rattle.std.specs.Prelude.{◌≡◌, ◌≤◌, ℕ, List, Ok, IfOk, IfErr, OnOk, ◌++◌};
-ghost use Rattle.std.specs.Option.{option_map};
+ghost use Rattle.std.specs.Prelude.{◌≡◌, ◌≤◌, ℕ, List, Ok, IfOk, IfErr, OnOk, ◌++◌, codes};
+ghost use Rattle.std.specs.Option.{option_to_list, option_map};
 ghost use Rattle.sts_base.specs.Faults.{Rose};
 ghost use Rattle.tool_io.specs.Putting.{PutsTo};
 ghost use Rattle.event_script.specs.Codes.{number_of};
@@ -9,12 +9,10 @@ ghost use Rattle.event_script.specs.Verdict.{Tells};
 ghost use Rattle.sts_words.specs.Views.{spoken};
 ghost use Rattle.run_tool.specs.declared.ending.Status.TheVariants as status;
 ghost use Rattle.run_tool.specs.Answers.{IsFailureTold, says};
-ghost use Rattle.run_tool.specs.inner.Giving.{GivesOneOf};
-ghost use Rattle.run_tool.specs.Scripts.{AnswersScript, OverScript, default_script, script_refused_line};
-ghost use Rattle.run_tool.specs.inner.Handed.{IsScriptOf, FoundNoMemory, names_given, wants_never};
-ghost use Rattle.run_tool.specs.inner.Nothing.{none_to_read};
+ghost use Rattle.run_tool.specs.inner.Handed.{GivesOneOf, IsScriptOf, FoundNoMemory, wants_never, none_to_read};
+ghost use Rattle.run_tool.specs.Scripts.{AnswersScript, OverScript, default_script};
+ghost use Rattle.run_tool.specs.Files.{code_line, told_by};
 ghost use Rattle.run_tool.specs.Wanted.{HasAsked, WantsScript};
-ghost use Rattle.run_tool.specs.Fetches.{told_by};
 
 use crate::ending::{Ending, Status};
 use crate::fetched::text_of;
@@ -29,7 +27,7 @@ const DEFAULT_END: u32 = 1000;
 
 /// Puts the line of a refusal of a script: the code's number.
 fn put_script_refused<K: Sink>(out: &mut K, code: ScriptCode) -> Result<(), PutFailed>
-    ensures { PutsTo K.taken K.faults out.old out.new (script_refused_line (number_of code)) result }
+    ensures { PutsTo K.taken K.faults out.old out.new (code_line (codes "script refused ") (number_of code)) result }
 {
     let put = then_put(Ok(()), out, b"script refused ");
     let put = then_put_decimal(put, out, u32::from(code.number()));
@@ -39,7 +37,7 @@ fn put_script_refused<K: Sink>(out: &mut K, code: ScriptCode) -> Result<(), PutF
 /// Gives the answer that a text stands for no script.
 fn say_script_refused<K: Sink>(out: &mut K, code: ScriptCode) -> Ending
     ensures { GivesOneOf K.taken K.faults out.old out.new
-        (λ answer. answer ≡ says status.ScriptRefused (script_refused_line (number_of code))) result }
+        (λ answer. answer ≡ says status.ScriptRefused (code_line (codes "script refused ") (number_of code))) result }
 {
     match put_script_refused(out, code) {
         Ok(()) => Ending::Gave(Status::ScriptRefused),
@@ -88,7 +86,7 @@ pub fn script_of<F: Folder, K: Sink>(
     ensures none { IfErr result (GivesOneOf K.taken K.faults out.old out.new
         (OverScript (told_by F.holds F.faults folder.old folder.new) (option_map spoken name.entry) none_to_read)) }
     ensures asked { OnOk result
-        (F.asked folder.new ≡ F.asked folder.old ++ names_given (option_map spoken name.entry)) }
+        (F.asked folder.new ≡ F.asked folder.old ++ option_to_list (option_map spoken name.entry)) }
     ensures stopped { IfErr result (λ ending. HasAsked F.asked folder.old folder.new
         (WantsScript (told_by F.holds F.faults folder.old folder.new) (FoundNoMemory ending)
         (option_map spoken name.entry) wants_never)) }

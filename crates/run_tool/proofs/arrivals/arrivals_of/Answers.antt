@@ -1,16 +1,15 @@
 use Rattle.std.proofs.Common.{List, subst, Ok, ◌≡◌, refl, inl, le_refl, ap}
 use Rattle.arrival_file.specs.Verdict.{Tells}
-use Rattle.run_tool.specs.Arrivals.{AnswersArrivals}
-use Rattle.run_tool.specs.inner.Nothing.{none_to_read}
+use Rattle.run_tool.specs.RunAt.{AnswersArrivals}
+use Rattle.run_tool.specs.inner.Handed.{none_to_read, wants_never}
 use Rattle.run_tool.proofs.Endings.{if-ok, if-err, text-gives, no-text-gives}
 use Rattle.std.specs.Prelude.{Result, IsErrOf, Err}
 use Rattle.arrival_file.specs.declared.arrival.Arrival.{Arrival}
 use Rattle.run_tool.specs.declared.ending.Ending.{Ending}
 use Rattle.run_tool.specs.declared.ending.Ending.TheVariants.{NoMemory}
-use Rattle.run_tool.specs.Wanted.{OrLacks, WantsFile, none_behind}
-use Rattle.run_tool.specs.inner.Handed.{never_behind}
+use Rattle.run_tool.specs.Wanted.{OrLacks, WantsFile, wants_none}
 use Rattle.run_tool.proofs.Wanting.{asked-more, asked-none, file-more, then-behind}
-use Rattle.run_tool.specs.Fetches.{told_by}
+use Rattle.run_tool.specs.Files.{told_by}
 use Rattle.run_tool.proofs.arrivals.arrivals_of.Goals as goal
 
 pub returns-in-Ok-clause-arrivals : goal.returns-in-Ok-clause-arrivals
@@ -37,8 +36,8 @@ returns-in-Ok-clause-asked g c =
     let new = c.text_of.new.folder in
     let files = told_by holds faults old new in
     let lacking = IsErrOf c.arrivals_in.result NoMemory in
-    then-behind asked holds faults old new new lacking c.args.name.now none_behind c.in-Ok.text c.deref.result.now c.in-Ok.ensures.asked c.in-Ok.ensures.text c.deref.ensures.value (le_refl (faults new))
-    (asked-none asked new (OrLacks lacking (none_behind c.deref.result.now)) (inl refl))
+    then-behind asked holds faults old new new lacking c.args.name.now (λ text. wants_none) c.in-Ok.text c.deref.result.now c.in-Ok.ensures.asked c.in-Ok.ensures.text c.deref.ensures.value (le_refl (faults new))
+    (asked-none asked new (OrLacks lacking wants_none) (inl refl))
 
 pub returns-in-Err-clause-asked : goal.returns-in-Err-clause-asked
 returns-in-Err-clause-asked g c =
@@ -51,5 +50,5 @@ returns-in-Err-clause-asked g c =
     let stopped = c.in-Err.ending ≡ NoMemory in
     let result : Result (List Arrival) Ending = Err c.in-Err.ending in
     let lacking = IsErrOf result NoMemory in
-    asked-more asked old new (WantsFile files stopped c.args.name.now never_behind) (WantsFile files lacking c.args.name.now none_behind)
-    (λ names h. file-more files files stopped lacking (λ file. refl, λ r. r) (λ e. ap (λ x. Err x) e) c.args.name.now never_behind none_behind names (λ text names x. absurd x) h) c.in-Err.ensures.stopped
+    asked-more asked old new (WantsFile files stopped c.args.name.now (λ text. wants_never)) (WantsFile files lacking c.args.name.now (λ text. wants_none))
+    (λ names h. file-more files files stopped lacking (λ file. refl, λ r. r) (λ e. ap (λ x. Err x) e) c.args.name.now (λ text. wants_never) (λ text. wants_none) names (λ text names x. absurd x) h) c.in-Err.ensures.stopped

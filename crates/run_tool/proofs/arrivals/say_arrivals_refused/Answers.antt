@@ -1,13 +1,14 @@
 use Rattle.std.proofs.Common.{refl}
+use Rattle.std.specs.Prelude.{codes}
 use Rattle.arrival_file.specs.Codes.{number_of}
 use Rattle.run_tool.specs.declared.ending.Status.TheVariants.{ArrivalsRefused}
-use Rattle.run_tool.specs.Arrivals.{arrivals_refused_line}
+use Rattle.run_tool.specs.Files.{code_line}
 use Rattle.run_tool.proofs.arrivals.say_arrivals_refused.Goals as goal
 
 pub returns-in-Err : goal.returns-in-Err
 returns-in-Err g c =
     record {
-      ends = (ArrivalsRefused, arrivals_refused_line (number_of c.args.code), refl, c.in-Err.ensures.part);
+      ends = (ArrivalsRefused, code_line (codes "arrivals refused ") (number_of c.args.code), refl, c.in-Err.ensures.part);
       later = c.in-Err.ensures.later;
       cut = λ cut. c.in-Err.ensures.failed;
     }

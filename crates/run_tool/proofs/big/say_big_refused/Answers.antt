@@ -2,9 +2,8 @@ use Rattle.std.proofs.Common.{subst, inr}
 use Rattle.sts_whole.specs.Accepting as accepting
 use Rattle.run_tool.specs.Answers.{Led}
 use Rattle.run_tool.specs.Big.{big_line}
-use Rattle.run_tool.specs.Refusals.{AnswersRefusal}
-use Rattle.run_tool.specs.Programs.{OverProgram}
-use Rattle.run_tool.specs.inner.Nothing.{none_to_programs}
+use Rattle.run_tool.specs.Programs.{AnswersRefusal, OverProgram}
+use Rattle.run_tool.specs.inner.Handed.{none_to_read}
 use Rattle.run_tool.proofs.Endings.{gives-more, led-more}
 use Rattle.run_tool.proofs.big.say_big_refused.Goals as goal
 
@@ -21,5 +20,5 @@ returns-in-Program g c =
     let lead = big_line c.args.size in
     let why = subst (λ x. accepting.RefusesText c.args.text.now x) c.in-Program.is c.requires in
     let may = AnswersRefusal c.args.text.now c.in-Program.code c.in-Program.at in
-    let more = OverProgram none_to_programs c.args.text.now in
+    let more = OverProgram (λ P. none_to_read) c.args.text.now in
     gives-more (Led lead may) (Led lead more) c.refuse_big.result (led-more lead may more (λ answer h. inr ((c.in-Program.code, c.in-Program.at), why, h))) c.refuse_big.ensures

@@ -1,11 +1,11 @@
-use Rattle.run_tool.specs.Build.{BuildsText}
+use Rattle.run_tool.specs.Programs.{BuildsText}
 use Rattle.run_tool.proofs.Endings.{text-gives, no-text-gives}
 use Rattle.std.proofs.Common.{◌≡◌, refl, inl, le_refl}
 use Rattle.run_tool.specs.declared.ending.Ending.TheVariants.{NoMemory}
-use Rattle.run_tool.specs.Wanted.{OrLacks, WantsFile, none_behind}
-use Rattle.run_tool.specs.inner.Handed.{never_behind}
+use Rattle.run_tool.specs.Wanted.{OrLacks, WantsFile, wants_none}
+use Rattle.run_tool.specs.inner.Handed.{wants_never}
 use Rattle.run_tool.proofs.Wanting.{asked-more, asked-none, file-missed, then-behind}
-use Rattle.run_tool.specs.Fetches.{told_by}
+use Rattle.run_tool.specs.Files.{told_by}
 use Rattle.run_tool.proofs.build.build.Goals as goal
 
 pub returns-in-Ok-clause-answer : goal.returns-in-Ok-clause-answer
@@ -27,8 +27,8 @@ returns-in-Ok-clause-asked g c =
     let new = c.text_of.new.folder in
     let files = told_by holds faults old new in
     let lacking = c.build_text.result ≡ NoMemory in
-    then-behind asked holds faults old new new lacking c.args.name.now none_behind c.in-Ok.text c.deref.result.now c.in-Ok.ensures.asked c.in-Ok.ensures.text c.deref.ensures.value (le_refl (faults new))
-    (asked-none asked new (OrLacks lacking (none_behind c.deref.result.now)) (inl refl))
+    then-behind asked holds faults old new new lacking c.args.name.now (λ text. wants_none) c.in-Ok.text c.deref.result.now c.in-Ok.ensures.asked c.in-Ok.ensures.text c.deref.ensures.value (le_refl (faults new))
+    (asked-none asked new (OrLacks lacking wants_none) (inl refl))
 
 pub returns-in-Err-clause-asked : goal.returns-in-Err-clause-asked
 returns-in-Err-clause-asked g c =
@@ -39,5 +39,5 @@ returns-in-Err-clause-asked g c =
     let new = c.text_of.new.folder in
     let files = told_by holds faults old new in
     let lacking = c.in-Err.ending ≡ NoMemory in
-    asked-more asked old new (WantsFile files lacking c.args.name.now never_behind) (WantsFile files lacking c.args.name.now none_behind)
-    (λ names h. file-missed files lacking c.args.name.now none_behind names h) c.in-Err.ensures.stopped
+    asked-more asked old new (WantsFile files lacking c.args.name.now (λ text. wants_never)) (WantsFile files lacking c.args.name.now (λ text. wants_none))
+    (λ names h. file-missed files lacking c.args.name.now (λ text. wants_none) names h) c.in-Err.ensures.stopped

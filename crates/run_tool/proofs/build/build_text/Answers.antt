@@ -1,7 +1,7 @@
 use Rattle.std.proofs.Common.{[], subst}
 use Rattle.tool_io.specs.Putting.{Took}
 use Rattle.tool_io.proofs.Laws.{took-nothing}
-use Rattle.run_tool.specs.Build.{WritesImage, BuildsText}
+use Rattle.run_tool.specs.Programs.{WritesImage, BuildsText}
 use Rattle.run_tool.proofs.Endings.{gives-more, gives-after, of-program}
 use Rattle.run_tool.proofs.build.build_text.Goals as goal
 

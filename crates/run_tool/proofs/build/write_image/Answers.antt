@@ -3,7 +3,7 @@ use Rattle.hex_image.specs.Spells.{flash_size}
 use Rattle.hex_image.specs.Writing.{hextext}
 use Rattle.run_tool.specs.declared.ending.Status.TheVariants.{Done}
 use Rattle.run_tool.specs.Answers.{says}
-use Rattle.run_tool.specs.Build.{WritesImage}
+use Rattle.run_tool.specs.Programs.{WritesImage}
 use Rattle.run_tool.proofs.Endings.{gives-more}
 use Rattle.run_tool.proofs.build.write_image.Goals as goal
 

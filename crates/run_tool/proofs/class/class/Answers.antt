@@ -5,11 +5,11 @@ use Rattle.run_tool.proofs.ClassTexts.{class-text-onwards}
 use Rattle.std.proofs.Common.{◌≡◌}
 use Rattle.run_tool.specs.declared.ending.Ending.TheVariants.{NoMemory}
 use Rattle.run_tool.specs.Wanted.{OrLacks, WantsFile, Onwards, WantsBoards, wants_none}
-use Rattle.run_tool.specs.inner.Handed.{never_behind}
+use Rattle.run_tool.specs.inner.Handed.{wants_never}
 use Rattle.run_tool.proofs.Wanting.{asked-more, boards-more, file-missed, onwards-more, or-more, then-behind}
-use Rattle.run_tool.specs.ClassFiles.{classes}
+use Rattle.run_tool.specs.ClassBoards.{classes}
 use Rattle.run_tool.proofs.Readings.{last-part}
-use Rattle.run_tool.specs.Fetches.{told_by}
+use Rattle.run_tool.specs.Files.{told_by}
 use Rattle.run_tool.proofs.class.class.Goals as goal
 
 pub returns-in-Ok-clause-answer : goal.returns-in-Ok-clause-answer
@@ -62,7 +62,7 @@ returns-in-Err-clause-asked g c =
     let new = c.text_of.new.folder in
     let files = told_by holds faults old new in
     let lacking = c.in-Err.ending ≡ NoMemory in
-    asked-more asked old new (WantsFile files lacking c.args.name.now never_behind) (WantsFile files lacking c.args.name.now (Onwards classes (λ file. WantsBoards files lacking file.end file.boards wants_none)))
+    asked-more asked old new (WantsFile files lacking c.args.name.now (λ text. wants_never)) (WantsFile files lacking c.args.name.now (Onwards classes (λ file. WantsBoards files lacking file.end file.boards wants_none)))
     (λ names h. file-missed files lacking c.args.name.now (Onwards classes (λ file. WantsBoards files lacking file.end file.boards wants_none)) names h) c.in-Err.ensures.stopped
 
 pub returns-in-Ok-clause-failure : goal.returns-in-Ok-clause-failure

@@ -2,19 +2,16 @@ use Rattle.std.proofs.Common.{subst, [], List, ◌≡◌, ◌++◌, refl}
 use Rattle.tool_io.specs.Putting.{Took}
 use Rattle.tool_io.proofs.Laws.{took-nothing}
 use Rattle.class_file.specs.declared.class.Names.{Names}
-use Rattle.run_tool.specs.inner.Giving.{GivesOneOf}
+use Rattle.run_tool.specs.inner.Handed.{GivesOneOf, none_to_read, AreReady, names_of_boards, wants_never}
 use Rattle.run_tool.specs.ClassBoards.{OverBoards}
-use Rattle.run_tool.specs.inner.Nothing.{none_to_read}
-use Rattle.run_tool.specs.inner.ClassReady.{AreReady}
 use Rattle.run_tool.specs.Class.{RunsClass, RunsFile}
 use Rattle.run_tool.proofs.Endings.{gives-more, gives-after}
 use Rattle.run_tool.proofs.ClassTexts.{ready-runs, not-ready}
 use Rattle.run_tool.specs.declared.ending.Ending.TheVariants.{NoMemory}
 use Rattle.run_tool.specs.Wanted.{HasAsked, WantsBoards, wants_none}
-use Rattle.run_tool.specs.inner.Handed.{names_of_boards, wants_never}
 use Rattle.run_tool.proofs.Wanting.{asked-more, boards-more}
 use Rattle.run_tool.proofs.WantedReadings.{all-read}
-use Rattle.run_tool.specs.Fetches.{told_by}
+use Rattle.run_tool.specs.Files.{told_by}
 use Rattle.run_tool.proofs.class.run_file.Goals as goal
 
 pub returns-in-Ok-clause-answer : goal.returns-in-Ok-clause-answer

@@ -2,8 +2,8 @@ use Rattle.std.proofs.Common.{subst, [], inl, ◌≡◌}
 use Rattle.tool_io.specs.Putting.{Took}
 use Rattle.tool_io.proofs.Laws.{took-nothing}
 use Rattle.class_file.specs.declared.class.ClassFile.{ClassFile}
-use Rattle.run_tool.specs.ClassFiles.{AnswersClassFile, classes}
-use Rattle.run_tool.specs.inner.Nothing.{none_to_read}
+use Rattle.run_tool.specs.ClassBoards.{AnswersClassFile, classes}
+use Rattle.run_tool.specs.inner.Handed.{none_to_read}
 use Rattle.run_tool.specs.Class.{RunsFile, RunsClassText}
 use Rattle.run_tool.proofs.Endings.{gives-more, gives-after}
 use Rattle.run_tool.proofs.ClassAnswers.{no-class}
@@ -11,7 +11,7 @@ use Rattle.run_tool.specs.declared.ending.Ending.TheVariants.{NoMemory}
 use Rattle.run_tool.specs.Wanted.{OrLacks, WantsBoards, wants_none, Onwards}
 use Rattle.run_tool.proofs.Wanting.{asked-more, asked-none}
 use Rattle.run_tool.proofs.WantedReadings.{class-stops}
-use Rattle.run_tool.specs.Fetches.{told_by}
+use Rattle.run_tool.specs.Files.{told_by}
 use Rattle.run_tool.proofs.class.run_text.Goals as goal
 
 pub returns-in-Ok-clause-answer : goal.returns-in-Ok-clause-answer

@@ -5,16 +5,14 @@ use Rattle.tool_io.proofs.Laws.{took-nothing}
 use Rattle.class_file.specs.declared.class.Names.{Names}
 use Rattle.class_file.specs.Within.{AreTexts}
 use Rattle.run_tool.specs.ClassBoards.{OverBoard, OverBoards}
-use Rattle.run_tool.specs.inner.Nothing.{none_to_read, none_to_read}
-use Rattle.run_tool.specs.inner.ClassReady.{AreReady}
+use Rattle.run_tool.specs.inner.Handed.{none_to_read, AreReady, names_of_boards}
 use Rattle.run_tool.proofs.Endings.{gives-more, gives-after, told-on}
 use Rattle.run_tool.proofs.ClassRuns.{none-ready, next-ready, next-answered}
 use Rattle.run_tool.specs.declared.ending.Ending.TheVariants.{NoMemory}
-use Rattle.run_tool.specs.inner.Handed.{names_of_boards}
 use Rattle.run_tool.proofs.Wanting.{more-behind, no-more}
 use Rattle.run_tool.proofs.WantedReadings.{next-wanted, next-names}
 use Rattle.run_tool.proofs.Readings.{first-part, last-part}
-use Rattle.run_tool.specs.Fetches.{told_by}
+use Rattle.run_tool.specs.Files.{told_by}
 use Rattle.run_tool.proofs.class_boards.boards_of.Goals as goal
 
 pub add-requires : goal.add-requires

@@ -1,8 +1,7 @@
 use Rattle.std.proofs.Common.{◌≡◌, ◌≤◌, ◌++◌, ℕ, List, take}
-use Rattle.run_tool.specs.inner.ClassReady.{AreReady}
-use Rattle.run_tool.specs.inner.Handed.{names_of_boards}
+use Rattle.run_tool.specs.inner.Handed.{AreReady, names_of_boards}
 use Rattle.run_tool.proofs.class_boards.boards_of.Given as goal
-use Rattle.run_tool.specs.Fetches.{told_by}
+use Rattle.run_tool.specs.Files.{told_by}
 
 -- those before are ready, nothing was written, the folder tells what it told, it was asked for the files of those before, and hasn't failed
 abbrev pub invariant-loop-at : goal.invariant-loop-at

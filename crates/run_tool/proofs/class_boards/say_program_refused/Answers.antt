@@ -1,10 +1,10 @@
 use Rattle.std.proofs.Common.{subst, inr}
 use Rattle.sts_whole.specs.Accepting as accepting
 use Rattle.run_tool.specs.Answers.{Led}
-use Rattle.run_tool.specs.Refusals.{AnswersRefusal}
+use Rattle.run_tool.specs.Programs.{AnswersRefusal}
 use Rattle.run_tool.specs.ClassBoards.{OverBoardProgram}
 use Rattle.class_world.specs.Lines.{board_lead}
-use Rattle.run_tool.specs.inner.Nothing.{none_to_boards}
+use Rattle.run_tool.specs.inner.Handed.{none_to_read}
 use Rattle.run_tool.proofs.Endings.{gives-more}
 use Rattle.run_tool.proofs.class_boards.say_program_refused.Goals as goal
 
@@ -19,5 +19,5 @@ refuse_program-requires-clause-fits g c =
 pub returns-in-Program : goal.returns-in-Program
 returns-in-Program g c =
     let why = subst (λ x. accepting.RefusesText c.args.text.now x) c.in-Program.is c.requires in
-    gives-more (Led (board_lead c.args.number) (AnswersRefusal c.args.text.now c.in-Program.code c.in-Program.at)) (OverBoardProgram c.args.number none_to_boards c.args.text.now) c.refuse_program.result
+    gives-more (Led (board_lead c.args.number) (AnswersRefusal c.args.text.now c.in-Program.code c.in-Program.at)) (OverBoardProgram c.args.number (λ tables. none_to_read) c.args.text.now) c.refuse_program.result
     (λ answer h. inr ((c.in-Program.code, c.in-Program.at), why, h)) c.refuse_program.ensures

@@ -1,15 +1,14 @@
 use Rattle.std.proofs.Common.{◌≡◌, ap, ◌∙◌, ◌++◌, inr, subst, sym}
-use Rattle.std.specs.Prelude.{Ok, Err}
+use Rattle.std.specs.Prelude.{Ok, Err, codes}
 use Rattle.event_script.specs.Codes.{number_of}
 use Rattle.event_script.specs.Sound.{IsSound}
 use Rattle.event_script.specs.Verdict.{Tells}
 use Rattle.class_file.specs.declared.class.ClassCode.TheVariants.{EndDiffers}
 use Rattle.run_tool.specs.declared.ending.Status.TheVariants.{ScriptRefused}
 use Rattle.run_tool.specs.Answers.{says}
-use Rattle.run_tool.specs.Scripts.{script_refused_line}
-use Rattle.run_tool.specs.inner.Nothing.{none_to_read}
-use Rattle.run_tool.specs.ClassFiles.{refuses_class}
-use Rattle.run_tool.specs.ClassBoards.{AnswersBoardScript, no_script, other_end}
+use Rattle.run_tool.specs.Files.{code_line}
+use Rattle.run_tool.specs.inner.Handed.{none_to_read}
+use Rattle.run_tool.specs.ClassBoards.{refuses_class, AnswersBoardScript, no_script, other_end}
 use Rattle.class_world.specs.Lines.{board_lead}
 use Rattle.run_tool.proofs.Endings.{if-ok, gives-more, refuses-script}
 use Rattle.run_tool.proofs.ClassAnswers.{if-errs, ok-so}
@@ -31,7 +30,7 @@ returns-in-Ok-clause-none g c =
 
 pub returns-in-Err-Script-clause-none : goal.returns-in-Err-Script-clause-none
 returns-in-Err-Script-clause-none g c =
-    gives-more (λ answer. answer ≡ says ScriptRefused (board_lead c.args.board.number ++ script_refused_line (number_of c.in-Err-Script.code))) (AnswersBoardScript c.args.board.number c.args.board.end none_to_read c.args.text.now)
+    gives-more (λ answer. answer ≡ says ScriptRefused (board_lead c.args.board.number ++ code_line (codes "script refused ") (number_of c.in-Err-Script.code))) (AnswersBoardScript c.args.board.number c.args.board.end none_to_read c.args.text.now)
     c.say_script_refused.result
     (λ answer h. inr (
       no_script c.in-Err-Script.code,

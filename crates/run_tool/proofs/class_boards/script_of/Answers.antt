@@ -1,21 +1,19 @@
 use Rattle.std.proofs.Common.{subst, ◌≡◌, ◌∷◌, []}
 use Rattle.std.specs.Prelude.{Ok}
 use Rattle.event_script.specs.Verdict.{Tells}
-use Rattle.run_tool.specs.inner.Nothing.{none_to_read}
+use Rattle.run_tool.specs.inner.Handed.{none_to_read, wants_never}
 use Rattle.run_tool.specs.ClassBoards.{AnswersBoardScript, board_scripts}
-use Rattle.run_tool.proofs.Endings.{if-err, text-gives, no-text-gives}
-use Rattle.run_tool.proofs.ClassAnswers.{if-oks}
+use Rattle.run_tool.proofs.Endings.{if-ok, if-err, text-gives, no-text-gives}
 use Rattle.run_tool.specs.declared.ending.Ending.TheVariants.{NoMemory}
 use Rattle.run_tool.specs.Wanted.{Onwards, WantsFile}
-use Rattle.run_tool.specs.inner.Handed.{never_behind, wants_never}
 use Rattle.run_tool.proofs.Wanting.{asked-more, file-fetched, file-missed, on-ok-all}
 use Rattle.run_tool.proofs.WantedReadings.{board-script-stops}
-use Rattle.run_tool.specs.Fetches.{told_by}
+use Rattle.run_tool.specs.Files.{told_by}
 use Rattle.run_tool.proofs.class_boards.script_of.Goals as goal
 
 pub returns-in-Ok-clause-script : goal.returns-in-Ok-clause-script
 returns-in-Ok-clause-script g c =
-    if-oks c.script_in.result (λ script h e. record { text = c.in-Ok.text; fetched = c.in-Ok.ensures.text; is = subst (λ t. Tells t (Ok script)) c.deref.ensures.value h; ends = e }) c.script_in.ensures.script c.script_in.ensures.ends
+    if-ok c.script_in.result (λ script h. (c.in-Ok.text, c.in-Ok.ensures.text, subst (λ t. Tells t (Ok script)) c.deref.ensures.value h)) c.script_in.ensures.script
 
 pub returns-in-Ok-clause-none : goal.returns-in-Ok-clause-none
 returns-in-Ok-clause-none g c =
@@ -56,5 +54,5 @@ returns-in-Err-clause-stopped g c =
     let files = told_by holds faults old new in
     let lacking = c.in-Err.ending ≡ NoMemory in
     let next = Onwards (board_scripts c.args.board.end) (λ script. wants_never) in
-    asked-more asked old new (WantsFile files lacking c.args.name.now never_behind) (WantsFile files lacking c.args.name.now next)
+    asked-more asked old new (WantsFile files lacking c.args.name.now (λ text. wants_never)) (WantsFile files lacking c.args.name.now next)
     (λ names h. file-missed files lacking c.args.name.now next names h) c.in-Err.ensures.stopped

@@ -11,7 +11,7 @@ use Rattle.run_tool.proofs.Endings.{says-concludes, order-concludes}
 use Rattle.run_tool.specs.declared.ending.Ending.TheVariants.{NoMemory}
 use Rattle.run_tool.specs.Wanted.{HasAsked, Wants}
 use Rattle.run_tool.proofs.Wanting.{asked-none, lacks-all}
-use Rattle.run_tool.specs.Fetches.{told_by}
+use Rattle.run_tool.specs.Files.{told_by}
 use Rattle.run_tool.proofs.commands.perform.Goals as goal
 
 pub returns-in-Ok-None-clause-answer : goal.returns-in-Ok-None-clause-answer

@@ -7,7 +7,7 @@ use Rattle.run_tool.proofs.Endings.{says-concludes}
 use Rattle.run_tool.specs.declared.ending.Ending.TheVariants.{NoMemory}
 use Rattle.run_tool.specs.Wanted.{HasAsked, Wants, wants_none}
 use Rattle.run_tool.proofs.Wanting.{asked-none}
-use Rattle.run_tool.specs.Fetches.{told_by}
+use Rattle.run_tool.specs.Files.{told_by}
 use Rattle.run_tool.proofs.commands.perform_order.Goals as goal
 
 pub returns-in-Check-clause-answer : goal.returns-in-Check-clause-answer

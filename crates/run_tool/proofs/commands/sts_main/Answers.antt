@@ -10,7 +10,7 @@ use Rattle.run_tool.specs.declared.ending.Ending.TheVariants.{NoMemory}
 use Rattle.run_tool.specs.Answers.{ending_number, of_sink}
 use Rattle.run_tool.specs.Wanted.{Wants}
 use Rattle.run_tool.proofs.Wanting.{asked-more, wants-more}
-use Rattle.run_tool.specs.Fetches.{told_by}
+use Rattle.run_tool.specs.Files.{told_by}
 use Rattle.run_tool.proofs.Endings.{told-number}
 use Rattle.run_tool.proofs.commands.sts_main.Goals as goal
 

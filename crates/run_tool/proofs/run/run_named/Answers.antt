@@ -1,18 +1,17 @@
 use Rattle.std.proofs.Common.{subst, refl, [], ◌≡◌}
-use Rattle.std.specs.Option.{option_map}
+use Rattle.std.specs.Option.{option_to_list, option_map}
 use Rattle.sts_words.specs.Views.{spoken}
 use Rattle.tool_io.specs.Putting.{Took}
 use Rattle.tool_io.proofs.Laws.{took-nothing}
-use Rattle.run_tool.specs.Run.{RunsProgram}
+use Rattle.run_tool.specs.Runs.{RunsProgram}
 use Rattle.run_tool.specs.Scripts.{OverScript}
-use Rattle.run_tool.specs.inner.Nothing.{none_to_read}
+use Rattle.run_tool.specs.inner.Handed.{none_to_read, wants_never}
 use Rattle.run_tool.proofs.Endings.{gives-more, concludes-more, concludes-after, says-concludes, no-script, over-script}
 use Rattle.run_tool.specs.declared.ending.Ending.TheVariants.{NoMemory}
 use Rattle.run_tool.specs.Wanted.{WantsScript, wants_none}
-use Rattle.run_tool.specs.inner.Handed.{names_given, wants_never}
 use Rattle.run_tool.proofs.Wanting.{asked-more, script-more}
 use Rattle.run_tool.proofs.WantedReadings.{script-read}
-use Rattle.run_tool.specs.Fetches.{told_by}
+use Rattle.run_tool.specs.Files.{told_by}
 use Rattle.run_tool.proofs.run.run_named.Goals as goal
 
 pub returns-in-Ok-clause-answer : goal.returns-in-Ok-clause-answer
@@ -44,7 +43,7 @@ returns-in-Ok-clause-asked g c =
     let new = c.script_of.new.folder in
     let files = told_by holds faults old new in
     let name = option_map spoken c.args.asked.script in
-    (names_given name, c.in-Ok.ensures.asked, script-read files (c.run_program.result ≡ NoMemory) name c.in-Ok.script c.in-Ok.ensures.script)
+    (option_to_list name, c.in-Ok.ensures.asked, script-read files (c.run_program.result ≡ NoMemory) name c.in-Ok.script c.in-Ok.ensures.script)
 
 pub returns-in-Err-clause-asked : goal.returns-in-Err-clause-asked
 returns-in-Err-clause-asked g c =

@@ -1,15 +1,14 @@
 use Rattle.std.proofs.Common.{refl, ◌≡◌}
 use Rattle.run_tool.specs.RunAt.{RunsTextAt}
-use Rattle.run_tool.specs.Files.{AnswersFile}
+use Rattle.run_tool.specs.Files.{AnswersFile, told_by}
 use Rattle.run_tool.proofs.Endings.{no-text-gives, concludes-more, text-concludes, says-concludes, told-on}
 use Rattle.run_tool.proofs.RunsAt.{text-runs-onwards}
 use Rattle.run_tool.specs.declared.ending.Ending.TheVariants.{NoMemory}
 use Rattle.run_tool.specs.Wanted.{Onwards, OrLacks, WantsFile, WantsOutside}
-use Rattle.run_tool.specs.inner.Handed.{never_behind}
+use Rattle.run_tool.specs.inner.Handed.{wants_never}
 use Rattle.run_tool.proofs.Wanting.{asked-more, file-missed, onwards-more, or-more, then-behind, outside-more}
 use Rattle.run_tool.proofs.Readings.{last-part}
 use Rattle.run_tool.specs.Programs.{programs}
-use Rattle.run_tool.specs.Fetches.{told_by}
 use Rattle.run_tool.proofs.run_at.run_at.Goals as goal
 
 pub returns-in-Ok-clause-answer : goal.returns-in-Ok-clause-answer
@@ -69,7 +68,7 @@ returns-in-Err-clause-asked g c =
     let files = told_by holds faults old new in
     let lacking = c.in-Err.ending ≡ NoMemory in
     let next = WantsOutside files lacking c.args.asked.outside.script.now c.args.asked.outside.arrivals.now in
-    asked-more asked old new (WantsFile files lacking c.args.name.now never_behind) (WantsFile files lacking c.args.name.now (Onwards programs (λ read. next)))
+    asked-more asked old new (WantsFile files lacking c.args.name.now (λ text. wants_never)) (WantsFile files lacking c.args.name.now (Onwards programs (λ read. next)))
     (λ names h. file-missed files lacking c.args.name.now (Onwards programs (λ read. next)) names h) c.in-Err.ensures.stopped
 
 pub returns-in-Ok-clause-failure : goal.returns-in-Ok-clause-failure

@@ -1,17 +1,15 @@
 use Rattle.std.proofs.Common.{subst, refl, [], ◌≡◌}
 use Rattle.tool_io.specs.Putting.{Took}
 use Rattle.tool_io.proofs.Laws.{took-nothing}
-use Rattle.run_tool.specs.Files.{AnswersFile}
-use Rattle.run_tool.specs.Arrivals.{AnswersArrivals}
-use Rattle.run_tool.specs.inner.Nothing.{none_to_read}
-use Rattle.run_tool.specs.RunAt.{RunsProgramAt, RunsOnScript}
+use Rattle.run_tool.specs.Files.{AnswersFile, told_by}
+use Rattle.run_tool.specs.RunAt.{AnswersArrivals, RunsProgramAt, RunsOnScript}
+use Rattle.run_tool.specs.inner.Handed.{none_to_read}
 use Rattle.run_tool.proofs.Endings.{gives-more, concludes-more, concludes-after, says-concludes}
 use Rattle.run_tool.proofs.RunsAt.{no-arrivals, over-arrivals}
 use Rattle.std.specs.Prelude.{IsErrOf}
 use Rattle.run_tool.specs.declared.ending.Ending.TheVariants.{NoMemory}
-use Rattle.run_tool.specs.Wanted.{WantsFile, none_behind}
+use Rattle.run_tool.specs.Wanted.{WantsFile, wants_none}
 use Rattle.run_tool.proofs.Wanting.{asked-more, file-more}
-use Rattle.run_tool.specs.Fetches.{told_by}
 use Rattle.run_tool.proofs.run_at.run_on_script.Goals as goal
 
 pub returns-in-Ok-clause-answer : goal.returns-in-Ok-clause-answer
@@ -45,8 +43,8 @@ returns-in-Ok-clause-asked g c =
     let name = c.args.asked.outside.arrivals.now in
     let stopped = IsErrOf c.arrivals_of.result NoMemory in
     let lacking = c.run_board_at.result ≡ NoMemory in
-    asked-more asked old new (WantsFile files stopped name none_behind) (WantsFile files lacking name none_behind)
-    (λ names h. file-more files files stopped lacking (λ file. refl, λ r. r) (λ e. let is = c.in-Ok.is in absurd (cc)) name none_behind none_behind names (λ text names x. x) h) c.arrivals_of.ensures.asked
+    asked-more asked old new (WantsFile files stopped name (λ text. wants_none)) (WantsFile files lacking name (λ text. wants_none))
+    (λ names h. file-more files files stopped lacking (λ file. refl, λ r. r) (λ e. let is = c.in-Ok.is in absurd (cc)) name (λ text. wants_none) (λ text. wants_none) names (λ text names x. x) h) c.arrivals_of.ensures.asked
 
 pub returns-in-Err-clause-asked : goal.returns-in-Err-clause-asked
 returns-in-Err-clause-asked g c =
@@ -59,5 +57,5 @@ returns-in-Err-clause-asked g c =
     let name = c.args.asked.outside.arrivals.now in
     let stopped = IsErrOf c.arrivals_of.result NoMemory in
     let lacking = c.in-Err.ending ≡ NoMemory in
-    asked-more asked old new (WantsFile files stopped name none_behind) (WantsFile files lacking name none_behind)
-    (λ names h. file-more files files stopped lacking (λ file. refl, λ r. r) (λ e. let is = c.in-Err.is in cc) name none_behind none_behind names (λ text names x. x) h) c.arrivals_of.ensures.asked
+    asked-more asked old new (WantsFile files stopped name (λ text. wants_none)) (WantsFile files lacking name (λ text. wants_none))
+    (λ names h. file-more files files stopped lacking (λ file. refl, λ r. r) (λ e. let is = c.in-Err.is in cc) name (λ text. wants_none) (λ text. wants_none) names (λ text names x. x) h) c.arrivals_of.ensures.asked

@@ -2,17 +2,16 @@ use Rattle.std.proofs.Common.{subst, refl, [], Some, ◌≡◌}
 use Rattle.tool_io.specs.Putting.{Took}
 use Rattle.tool_io.proofs.Laws.{took-nothing}
 use Rattle.run_tool.specs.Scripts.{OverScript}
-use Rattle.run_tool.specs.inner.Nothing.{none_to_read}
+use Rattle.run_tool.specs.inner.Handed.{none_to_read, wants_never}
 use Rattle.run_tool.specs.RunAt.{RunsOnScript, RunsOutside}
 use Rattle.run_tool.proofs.Endings.{gives-more, concludes-more, concludes-after, says-concludes, no-script, over-script, told-on}
 use Rattle.run_tool.proofs.RunsAt.{script-runs-onwards}
 use Rattle.run_tool.specs.declared.ending.Ending.TheVariants.{NoMemory}
-use Rattle.run_tool.specs.Wanted.{WantsFile, WantsOutside, WantsScript, none_behind}
-use Rattle.run_tool.specs.inner.Handed.{wants_never}
+use Rattle.run_tool.specs.Wanted.{WantsFile, WantsOutside, WantsScript, wants_none}
 use Rattle.run_tool.proofs.Wanting.{asked-behind, asked-more, file-more, script-more}
 use Rattle.run_tool.proofs.WantedReadings.{script-then, script-kept}
 use Rattle.run_tool.proofs.Readings.{first-part, last-part}
-use Rattle.run_tool.specs.Fetches.{told_by}
+use Rattle.run_tool.specs.Files.{told_by}
 use Rattle.run_tool.proofs.run_at.run_outside.Goals as goal
 
 pub returns-in-Ok-clause-answer : goal.returns-in-Ok-clause-answer
@@ -60,9 +59,9 @@ returns-in-Ok-clause-asked g c =
     let script = c.args.asked.outside.script.now in
     let arrivals = c.args.asked.outside.arrivals.now in
     let kept = script-kept (told_by holds faults old mid) files script c.in-Ok.script (first-part holds faults old mid new c.run_on_script.ensures.folder_later) c.in-Ok.ensures.script in
-    asked-behind asked old mid new script (WantsFile files_mid lacking arrivals none_behind) (WantsOutside files lacking script arrivals) c.in-Ok.ensures.asked
-    (λ names h. script-then files lacking script c.in-Ok.script (WantsFile files lacking arrivals none_behind) names kept
-    (file-more files_mid files lacking lacking on (λ l. l) arrivals none_behind none_behind names (λ text names x. x) h)) c.run_on_script.ensures.asked
+    asked-behind asked old mid new script (WantsFile files_mid lacking arrivals (λ text. wants_none)) (WantsOutside files lacking script arrivals) c.in-Ok.ensures.asked
+    (λ names h. script-then files lacking script c.in-Ok.script (WantsFile files lacking arrivals (λ text. wants_none)) names kept
+    (file-more files_mid files lacking lacking on (λ l. l) arrivals (λ text. wants_none) (λ text. wants_none) names (λ text names x. x) h)) c.run_on_script.ensures.asked
 
 pub returns-in-Err-clause-asked : goal.returns-in-Err-clause-asked
 returns-in-Err-clause-asked g c =
@@ -74,7 +73,7 @@ returns-in-Err-clause-asked g c =
     let files = told_by holds faults old new in
     let lacking = c.in-Err.ending ≡ NoMemory in
     let script = c.args.asked.outside.script.now in
-    let next = WantsFile files lacking c.args.asked.outside.arrivals.now none_behind in
+    let next = WantsFile files lacking c.args.asked.outside.arrivals.now (λ text. wants_none) in
     asked-more asked old new (WantsScript files lacking (Some script) wants_never) (WantsOutside files lacking script c.args.asked.outside.arrivals.now)
     (λ names h. script-more files files lacking lacking (λ file. refl, λ r. r) (λ l. l) (Some script) wants_never next names (λ names x. absurd x) h) c.in-Err.ensures.stopped
 

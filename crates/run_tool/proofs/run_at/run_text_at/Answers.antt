@@ -8,7 +8,7 @@ use Rattle.run_tool.specs.Wanted.{Onwards, OrLacks, WantsOutside}
 use Rattle.run_tool.proofs.Wanting.{asked-more, asked-none}
 use Rattle.run_tool.proofs.WantedReadings.{accepted, program-stops}
 use Rattle.run_tool.specs.Programs.{programs}
-use Rattle.run_tool.specs.Fetches.{told_by}
+use Rattle.run_tool.specs.Files.{told_by}
 use Rattle.run_tool.proofs.run_at.run_text_at.Goals as goal
 
 pub returns-in-Ok-clause-answer : goal.returns-in-Ok-clause-answer

@@ -1,20 +1,20 @@
 use Rattle.std.proofs.Common.{◌≡◌, ◌≤◌, length, arith, refl, inl, inr}
+use Rattle.std.specs.Prelude.{codes}
 use Rattle.std.specs.Option.{option_map}
 use Rattle.sts_words.specs.Views.{spoken}
 use Rattle.hex_image.specs.Spells.{flash_size}
 use Rattle.hex_image.specs.Codes.{number_of}
 use Rattle.run_tool.specs.declared.ending.Status.TheVariants.{ImageRefused}
 use Rattle.run_tool.specs.Answers.{says}
-use Rattle.run_tool.specs.Runs.{RunsBoard}
+use Rattle.run_tool.specs.Runs.{RunsBoard, RunsHex, images}
+use Rattle.run_tool.specs.Files.{code_line, told_by}
 use Rattle.run_tool.specs.Scripts.{OverScript}
-use Rattle.run_tool.specs.RunHex.{RunsHex, image_refused_line, images}
 use Rattle.run_tool.proofs.Endings.{gives-more, concludes-more, says-concludes}
 use Rattle.run_tool.proofs.ImageRuns.{image-fits, broken-answer}
 use Rattle.run_tool.specs.declared.ending.Ending.TheVariants.{NoMemory}
 use Rattle.run_tool.specs.Wanted.{Onwards, OrLacks, WantsScript, wants_none}
 use Rattle.run_tool.proofs.Wanting.{asked-more, asked-none}
 use Rattle.run_tool.proofs.WantedReadings.{broken}
-use Rattle.run_tool.specs.Fetches.{told_by}
 use Rattle.run_tool.proofs.run_hex.run_hex_text.Goals as goal
 
 pub run_named-requires-clause-size : goal.run_named-requires-clause-size
@@ -34,7 +34,7 @@ returns-in-Image-clause-answer g c =
     let files = told_by g.F.Folder.holds g.F.Folder.faults c.args.folder.now c.args.folder.now in
     let name = option_map spoken c.args.asked.script in
     says-concludes g.D.Device.account c.args.places.now.items c.args.places.now.items refl (RunsHex files name c.args.asked.budget c.args.text.now) c.say_image_refused.result
-    (gives-more (λ answer. answer ≡ says ImageRefused (image_refused_line (number_of c.in-Image.code))) (RunsHex files name c.args.asked.budget c.args.text.now) c.say_image_refused.result
+    (gives-more (λ answer. answer ≡ says ImageRefused (code_line (codes "image refused ") (number_of c.in-Image.code))) (RunsHex files name c.args.asked.budget c.args.text.now) c.say_image_refused.result
     (broken-answer files name c.args.text.now c.args.asked.budget c.in-Image.code c.in-Err.why c.in-Image.is c.in-Err.ensures.code) c.say_image_refused.ensures)
 
 pub returns-in-Ok-clause-asked : goal.returns-in-Ok-clause-asked

@@ -1,8 +1,7 @@
 use Rattle.std.proofs.Common.{subst, inr}
 use Rattle.sts_whole.specs.Accepting as accepting
-use Rattle.run_tool.specs.Refusals.{AnswersRefusal}
-use Rattle.run_tool.specs.Programs.{OverProgram}
-use Rattle.run_tool.specs.inner.Nothing.{none_to_programs}
+use Rattle.run_tool.specs.Programs.{AnswersRefusal, OverProgram}
+use Rattle.run_tool.specs.inner.Handed.{none_to_read}
 use Rattle.run_tool.proofs.Endings.{gives-more}
 use Rattle.run_tool.proofs.said.say_refusal.Goals as goal
 
@@ -17,5 +16,5 @@ say_refused-requires-clause-fits g c =
 pub returns-in-Program : goal.returns-in-Program
 returns-in-Program g c =
     let why = subst (λ x. accepting.RefusesText c.args.text.now x) c.in-Program.is c.requires in
-    gives-more (AnswersRefusal c.args.text.now c.in-Program.code c.in-Program.at) (OverProgram none_to_programs c.args.text.now) c.say_refused.result
+    gives-more (AnswersRefusal c.args.text.now c.in-Program.code c.in-Program.at) (OverProgram (λ P. none_to_read) c.args.text.now) c.say_refused.result
     (λ answer h. inr ((c.in-Program.code, c.in-Program.at), why, h)) c.say_refused.ensures

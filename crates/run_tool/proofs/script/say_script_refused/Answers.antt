@@ -1,13 +1,14 @@
 use Rattle.std.proofs.Common.{refl}
+use Rattle.std.specs.Prelude.{codes}
 use Rattle.event_script.specs.Codes.{number_of}
 use Rattle.run_tool.specs.declared.ending.Status.TheVariants.{ScriptRefused}
-use Rattle.run_tool.specs.Scripts.{script_refused_line}
+use Rattle.run_tool.specs.Files.{code_line}
 use Rattle.run_tool.proofs.script.say_script_refused.Goals as goal
 
 pub returns-in-Err : goal.returns-in-Err
 returns-in-Err g c =
     record {
-      ends = (ScriptRefused, script_refused_line (number_of c.args.code), refl, c.in-Err.ensures.part);
+      ends = (ScriptRefused, code_line (codes "script refused ") (number_of c.args.code), refl, c.in-Err.ensures.part);
       later = c.in-Err.ensures.later;
       cut = λ cut. c.in-Err.ensures.failed;
     }

@@ -1,19 +1,17 @@
 use Rattle.std.proofs.Common.{subst, sym, IfOk, IfErr, Ok, List, ℕ, ◌≡◌, ◌++◌, ◌∷◌, [], OnOk}
-use Rattle.std.specs.Option.{option_map}
+use Rattle.std.specs.Option.{option_to_list, option_map}
 use Rattle.std.specs.declared.option.Option.{Option}
 use Rattle.std.specs.Borrow.{Bor}
 use Rattle.sts_words.specs.Views.{spoken}
 use Rattle.event_script.specs.Verdict.{Tells}
-use Rattle.run_tool.specs.inner.Giving.{GivesOneOf}
+use Rattle.run_tool.specs.inner.Handed.{GivesOneOf, IsScriptOf, wants_never, none_to_read}
 use Rattle.run_tool.specs.Scripts.{AnswersScript, OverScript, scripts}
-use Rattle.run_tool.specs.inner.Handed.{IsScriptOf, names_given, never_behind, wants_never}
-use Rattle.run_tool.specs.inner.Nothing.{none_to_read}
 use Rattle.run_tool.proofs.Endings.{if-ok, if-err, text-gives}
 use Rattle.run_tool.specs.declared.ending.Ending.TheVariants.{NoMemory}
 use Rattle.run_tool.specs.Wanted.{HasAsked, Onwards, WantsFile, WantsScript}
 use Rattle.run_tool.proofs.Wanting.{asked-more, file-fetched, file-missed, no-more, on-ok-all}
 use Rattle.run_tool.proofs.WantedReadings.{script-stops}
-use Rattle.run_tool.specs.Fetches.{told_by}
+use Rattle.run_tool.specs.Files.{told_by}
 use Rattle.run_tool.proofs.script.script_of.Goals as goal
 
 pub returns-in-Ok-clause-script : goal.returns-in-Ok-clause-script
@@ -32,12 +30,12 @@ returns-in-Ok-clause-none g c =
 pub returns-in-None-clause-asked : goal.returns-in-None-clause-asked
 returns-in-None-clause-asked g c =
     let before = g.F.Folder.asked c.args.folder.now in
-    subst (λ (o : Option (Bor (List ℕ))). before ≡ before ++ names_given (option_map spoken o)) (sym c.in-None.is) (no-more before)
+    subst (λ (o : Option (Bor (List ℕ))). before ≡ before ++ option_to_list (option_map spoken o)) (sym c.in-None.is) (no-more before)
 
 pub returns-in-Ok-clause-asked : goal.returns-in-Ok-clause-asked
 returns-in-Ok-clause-asked g c =
     let asked = g.F.Folder.asked in
-    subst (λ (o : Option (Bor (List ℕ))). OnOk c.script_in.result (asked c.text_of.new.folder ≡ asked c.args.folder.now ++ names_given (option_map spoken o))) (sym c.in-Some.is)
+    subst (λ (o : Option (Bor (List ℕ))). OnOk c.script_in.result (asked c.text_of.new.folder ≡ asked c.args.folder.now ++ option_to_list (option_map spoken o))) (sym c.in-Some.is)
     (on-ok-all c.script_in.result c.in-Ok.ensures.asked)
 
 pub returns-in-Ok-clause-stopped : goal.returns-in-Ok-clause-stopped
@@ -68,5 +66,5 @@ returns-in-Err-clause-stopped g c =
     let name = c.in-Some.name.now in
     let lacking = c.in-Err.ending ≡ NoMemory in
     subst (λ (o : Option (Bor (List ℕ))). HasAsked asked old new (WantsScript files lacking (option_map spoken o) wants_never)) (sym c.in-Some.is)
-    (asked-more asked old new (WantsFile files lacking name never_behind) (WantsFile files lacking name (Onwards scripts (λ script. wants_never)))
+    (asked-more asked old new (WantsFile files lacking name (λ text. wants_never)) (WantsFile files lacking name (Onwards scripts (λ script. wants_never)))
     (λ names h. file-missed files lacking name (Onwards scripts (λ script. wants_never)) names h) c.in-Err.ensures.stopped)

@@ -1,23 +1,20 @@
 use Rattle.std.proofs.Common.{◌≡◌, ◌≤◌, ◌∙◌, refl, sym, subst, rules, arith, [], ◌++◌, ◌∷◌, List, ℕ, inr, inl}
-use Rattle.std.specs.Prelude.{vec_len}
-use Rattle.thumb_code.specs.Map.{flash_end}
+use Rattle.std.specs.Prelude.{Some, Ok}
+use Rattle.event_script.specs.Verdict.{Tells}
+use Rattle.sts_whole.specs.Built.{Builds}
 use Rattle.tool_io.specs.Putting.{Took}
 use Rattle.tool_io.proofs.Laws.{took-nothing}
-use Rattle.run_tool.specs.Files.{AnswersFile}
-use Rattle.run_tool.specs.inner.Giving.{GivesOneOf}
-use Rattle.run_tool.specs.inner.Nothing.{none_to_read, none_to_boards}
+use Rattle.run_tool.specs.Files.{AnswersFile, told_by}
+use Rattle.run_tool.specs.inner.Handed.{GivesOneOf, none_to_read, HasText, IsScriptOf, wants_never}
 use Rattle.run_tool.specs.ClassBoards.{OverBoardProgram, OverBoardScript, OverBoard, board_scripts}
-use Rattle.run_tool.specs.inner.ClassReady.{IsImageOf, IsBoardScript}
 use Rattle.run_tool.proofs.Endings.{if-err, gives-more, gives-after, told-on}
-use Rattle.run_tool.proofs.ClassAnswers.{on-oks, image-onwards, board-refused, script-answered, script-onwards}
+use Rattle.run_tool.proofs.ClassAnswers.{on-oks, image-onwards, board-refused, script-answered}
 use Rattle.run_tool.specs.declared.ending.Ending.TheVariants.{NoMemory}
 use Rattle.run_tool.specs.Wanted.{HasAsked, Onwards, WantsFile}
-use Rattle.run_tool.specs.inner.Handed.{wants_never}
 use Rattle.run_tool.proofs.Wanting.{asked-more, more-behind, on-ok-all, read-more}
 use Rattle.run_tool.proofs.WantedReadings.{script-asked}
-use Rattle.run_tool.proofs.Readings.{first-part, last-part}
+use Rattle.run_tool.proofs.Readings.{first-part, last-part, text-kept}
 use Rattle.run_tool.specs.Programs.{programs}
-use Rattle.run_tool.specs.Fetches.{told_by}
 use Rattle.run_tool.proofs.class_boards.Boards.add.Goals as goal
 
 pub returns-in-Ok-script_of-clause-added : goal.returns-in-Ok-script_of-clause-added
@@ -36,21 +33,18 @@ returns-in-Ok-script_of-clause-added g c =
     let until = c.args.board.end in
     let program : c.name_text-program.result.now ≡ names.program = c.name_text-program.ensures ∙ c.as_slice.ensures in
     let script : c.name_text-script.result.now ≡ names.script = c.name_text-script.ensures ∙ c.as_slice-2.ensures in
-    let image = subst (λ n. IsImageOf before n c.in-Ok.image.items) program c.in-Ok.ensures.image in
-    let read = subst (λ n. IsBoardScript files_mid until n c.in-Ok-script_of.read) script c.in-Ok-script_of.ensures.script in
-    let room : vec_len c.in-Ok.image ≤ flash_end = (let room = image.builds.room in search rules) in
+    let image = subst (λ n. HasText before n (λ text. Builds text c.in-Ok.image.items)) program c.in-Ok.ensures.image in
+    let read = subst (λ n. IsScriptOf files_mid (Some n) c.in-Ok-script_of.read) script c.in-Ok-script_of.ensures.script in
     on-oks c.push.result (λ images scripts. record {
       image = c.in-Ok.image;
-      is_image = image-onwards before files was names.program c.in-Ok.image.items image;
-      fits = room;
-      flashed = record { fits = image.builds.room; bytes = c.push.ensures.bytes };
-      more = record {
-        script = c.in-Ok-script_of.read;
-        is = script-onwards files_mid files until on names.script c.in-Ok-script_of.read read;
-        sound = c.in-Ok-script_of.ensures.sound;
-        images = images;
-        scripts = scripts;
-      };
+      script = c.in-Ok-script_of.read;
+      built = image-onwards before files was names.program c.in-Ok.image.items image;
+      flashed = record { fits = image.2.room; bytes = c.push.ensures.bytes };
+      read = text-kept files_mid files on names.script (λ text. Tells text (Ok c.in-Ok-script_of.read)) read;
+      sound = c.in-Ok-script_of.ensures.sound;
+      ends = c.in-Ok-script_of.ensures.ends;
+      images = images;
+      scripts = scripts;
     }) c.push.ensures.images c.push.ensures.scripts
 
 pub returns-in-Ok-script_of-clause-unwritten : goal.returns-in-Ok-script_of-clause-unwritten
@@ -85,7 +79,7 @@ returns-in-Err-script_of-clause-none g c =
     let board = c.args.board in
     let program : c.name_text-program.result.now ≡ names.program = c.name_text-program.ensures ∙ c.as_slice.ensures in
     let script : c.name_text-script.result.now ≡ names.script = c.name_text-script.ensures ∙ c.as_slice-2.ensures in
-    let image = subst (λ n. IsImageOf before n c.in-Ok.image.items) program c.in-Ok.ensures.image in
+    let image = subst (λ n. HasText before n (λ text. Builds text c.in-Ok.image.items)) program c.in-Ok.ensures.image in
     let may = OverBoard files board.end board.number names none_to_read in
     gives-after may c.in-Err-script_of.ending
     (subst (λ x. Took x (g.K.Sink.taken c.image_of.new.out) []) c.in-Ok.ensures.unwritten (took-nothing (g.K.Sink.taken c.image_of.new.out))) c.in-Ok.ensures.later
@@ -99,8 +93,8 @@ returns-in-Err-clause-none g c =
     let names = c.args.names.now in
     let board = c.args.board in
     let program : c.name_text-program.result.now ≡ names.program = c.name_text-program.ensures ∙ c.as_slice.ensures in
-    gives-more (AnswersFile files c.name_text-program.result.now (OverBoardProgram board.number none_to_boards)) (OverBoard files board.end board.number names none_to_read) c.in-Err.ending
-    (λ answer h. board-refused files board.end board.number names answer (subst (λ n. AnswersFile files n (OverBoardProgram board.number none_to_boards) answer) program h)) c.in-Err.ensures.none
+    gives-more (AnswersFile files c.name_text-program.result.now (OverBoardProgram board.number (λ tables. none_to_read))) (OverBoard files board.end board.number names none_to_read) c.in-Err.ending
+    (λ answer h. board-refused files board.end board.number names answer (subst (λ n. AnswersFile files n (OverBoardProgram board.number (λ tables. none_to_read)) answer) program h)) c.in-Err.ensures.none
 
 pub returns-in-Ok-script_of-clause-asked : goal.returns-in-Ok-script_of-clause-asked
 returns-in-Ok-script_of-clause-asked g c =
@@ -130,7 +124,7 @@ returns-in-Ok-script_of-clause-stopped g c =
     let names = c.args.names.now in
     let program : c.name_text-program.result.now ≡ names.program = c.name_text-program.ensures ∙ c.as_slice.ensures in
     let script : c.name_text-script.result.now ≡ names.script = c.name_text-script.ensures ∙ c.as_slice-2.ensures in
-    let image = image-onwards before files was names.program c.in-Ok.image.items (subst (λ n. IsImageOf before n c.in-Ok.image.items) program c.in-Ok.ensures.image) in
+    let image = image-onwards before files was names.program c.in-Ok.image.items (subst (λ n. HasText before n (λ text. Builds text c.in-Ok.image.items)) program c.in-Ok.ensures.image) in
     if-err c.push.result
     (λ ending e. script-asked asked old mid new files_mid files on (ending ≡ NoMemory) c.args.board.end names c.in-Ok.image.items image
     (subst (λ (n : List ℕ). asked mid ≡ asked old ++ n ∷ []) program c.in-Ok.ensures.asked)
@@ -154,7 +148,7 @@ returns-in-Err-script_of-clause-stopped g c =
     let lacking = c.in-Err-script_of.ending ≡ NoMemory in
     let program : c.name_text-program.result.now ≡ names.program = c.name_text-program.ensures ∙ c.as_slice.ensures in
     let script : c.name_text-script.result.now ≡ names.script = c.name_text-script.ensures ∙ c.as_slice-2.ensures in
-    let image = image-onwards before files was names.program c.in-Ok.image.items (subst (λ n. IsImageOf before n c.in-Ok.image.items) program c.in-Ok.ensures.image) in
+    let image = image-onwards before files was names.program c.in-Ok.image.items (subst (λ n. HasText before n (λ text. Builds text c.in-Ok.image.items)) program c.in-Ok.ensures.image) in
     script-asked asked old mid new files_mid files on lacking until names c.in-Ok.image.items image
     (subst (λ (n : List ℕ). asked mid ≡ asked old ++ n ∷ []) program c.in-Ok.ensures.asked)
     (subst (λ (n : List ℕ). HasAsked asked mid new (WantsFile files_mid lacking n (Onwards (board_scripts until) (λ script. wants_never)))) script c.in-Err-script_of.ensures.stopped)
