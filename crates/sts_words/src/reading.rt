@@ -61,7 +61,8 @@ fn one_name<'a>(names: Names<'a>) -> Option<&'a str>
 
 /// One name, and that of a script or none.
 fn with_script<'a>(names: Names<'a>) -> Option<(&'a str, Option<&'a str>)>
-    ensures { option_map (λ named. (named.0.now, option_map spoken named.1)) result ≡ spec.with_script (names_view names.entry) }
+    ensures { option_map (λ named. (named.0.now, option_map spoken named.1)) result
+        ≡ spec.with_script (names_view names.entry) }
 {
     match names {
         Names::Nothing | Names::Three(_, _, _) => None,
