@@ -11,8 +11,11 @@ use Rattle.std.specs.Option.{option_or}
 use Rattle.sts_scope.specs.Values.{value_at}
 use Rattle.sts_scope.specs.Lookup.{declares, entry_number, is_second}
 use Rattle.sts_scope.specs.Globals.{name_failure, names_failure}
-use Rattle.text_headings.specs.Seen.{AreSeen}
 use Rattle.sts_scope.proofs.Laws.{position-append, drop_at}
+
+-- exactly the names of the first d declarations have a value
+pub record AreSeen (seen : List (Option ℕ)) (entries : List Entry) (d : ℕ) : Type 0 where
+  pub each : (y : ℕ) → is_some (value_at seen y) ≡ is_some (entry_number (take d entries) o.Whole y)
 
 some_else : (a : Option ℕ) (b : Bool) (n : ℕ) → is_some (option_or a (cond b (Some n) None)) ≡ (b || is_some a)
 some_else None true n = refl

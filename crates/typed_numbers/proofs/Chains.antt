@@ -5,7 +5,12 @@ use Rattle.sts_scope.specs.declared.entries.DeclarationKind.{DeclarationKind}
 use Rattle.sts_scope.specs.declared.known.Known.{Known}
 use Rattle.sts_scope.specs.Lookup.{base_of}
 use Rattle.sts_scope.specs.Numbers.{own_names, is_listed, added, names_from}
-use Rattle.typed_numbers.specs.Building.{chain_from, names_along}
+use Rattle.typed_numbers.specs.Building.{chain_from}
+
+-- The names of the fields or methods of classes, those of the last one first, and behind them the new ones of each.
+abbrev pub names_along : (Option DeclarationKind → Bool) → Known → List ℕ → List ℕ
+names_along which k [] = []
+names_along which k (c ∷ rest) = added (names_along which k rest) (own_names which k.entries c)
 
 all_new : (xs : List ℕ) → filter (λ x. not (is_listed [] x)) xs ≡ xs
 all_new [] = refl

@@ -5,7 +5,7 @@ use Rattle.sts_scope.specs.declared.entries.Entry.{Entry}
 use Rattle.sts_scope.specs.declared.known.Known.{Known}
 use Rattle.sts_scope.specs.Scopes.{is_global}
 use Rattle.sts_scope.specs.Lookup.{base_of, is_field}
-use Rattle.sts_scope.specs.Numbers.{Numbering, is_method, own_names, added, names_from}
+use Rattle.sts_scope.specs.Numbers.{Numbering, is_method, names_from}
 use Rattle.typed_numbers.specs.declared.routine_numbers.Numbers.{Numbers}
 use Rattle.typed_numbers.specs.declared.member_names.Members.{Members}
 use Rattle.typed_numbers.specs.declared.member_names.Members.TheVariants.{Fields, Methods}
@@ -22,11 +22,6 @@ picks Methods = is_method
 abbrev pub chain_from : Known → ℕ → ℕ → List ℕ
 chain_from k zero c = []
 chain_from k (suc n) c = c ∷ elim (base_of k.classes c) [ None ↦ [] | Some b ↦ chain_from k n b ]
-
--- The names of their fields or methods, those of the last one first, and behind them the new ones of each.
-abbrev pub names_along : (Option DeclarationKind → Bool) → Known → List ℕ → List ℕ
-names_along which k [] = []
-names_along which k (c ∷ rest) = added (names_along which k rest) (own_names which k.entries c)
 
 -- the names of each of the first classes
 abbrev pub names_upto : (Option DeclarationKind → Bool) → Known → ℕ → List (List ℕ)

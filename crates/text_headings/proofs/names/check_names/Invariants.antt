@@ -1,6 +1,6 @@
 use Rattle.std.proofs.Common.{◌≡◌, drop}
 use Rattle.sts_scope.specs.Globals.{names_failure}
-use Rattle.text_headings.specs.Seen.{AreSeen}
+use Rattle.text_headings.proofs.SeenNames.{AreSeen}
 use Rattle.text_headings.proofs.names.check_names.Given as goal
 
 abbrev pub invariant-loop-d : goal.invariant-loop-d

@@ -1,8 +1,8 @@
 use Rattle.std.proofs.Common.{◌-◌, List, ℕ, length, drop, get_or, ap, ◌∙◌, arith}
 use Rattle.sts_scope.specs.declared.entries.Entry.{Entry}
 use Rattle.sts_scope.specs.Numbers.{added, own_names}
-use Rattle.typed_numbers.specs.Building.{picks, names_along}
-use Rattle.typed_numbers.proofs.Chains.{along_next}
+use Rattle.typed_numbers.specs.Building.{picks}
+use Rattle.typed_numbers.proofs.Chains.{names_along, along_next}
 use Rattle.typed_numbers.proofs.member_names.class_names.Goals as goal
 
 pub loop-i-preserved : goal.loop-i-preserved
