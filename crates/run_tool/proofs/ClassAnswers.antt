@@ -20,7 +20,7 @@ use Rattle.sts_whole.specs.Built.{Builds}
 use Rattle.run_tool.specs.declared.fetched.Fetched.TheVariants.{Text}
 use Rattle.run_tool.specs.Files.{ToldFiles, AnswersFile, code_line}
 use Rattle.run_tool.specs.Answers.{Answer}
-use Rattle.run_tool.specs.inner.Handed.{none_to_read, HasText, IsSourceOf}
+use Rattle.run_tool.specs.inner.{none_to_read, HasText, IsSourceOf}
 use Rattle.run_tool.specs.ClassBoards.{RefusesClass, AnswersClassFile, BoardSource, OverBoardProgram, AnswersBoardScript, OverBoardScript, OverBoard, OverBoards}
 use Rattle.run_tool.proofs.Readings.{IsOnward, text-kept, file-onwards, file-more}
 

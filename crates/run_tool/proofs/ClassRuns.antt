@@ -32,7 +32,7 @@ use Rattle.run_tool.specs.declared.class_boards.Boards.{Boards}
 use Rattle.run_tool.specs.declared.fetched.Fetched.TheVariants.{Text}
 use Rattle.run_tool.specs.Answers.{Answer, says}
 use Rattle.run_tool.specs.Files.{ToldFiles}
-use Rattle.run_tool.specs.inner.Handed.{GivesOneOf, none_to_read, IsSourceOf, HasAdded, AreReady, ending_of_class}
+use Rattle.run_tool.specs.inner.{GivesOneOf, none_to_read, IsSourceOf, HasAdded, AreReady, ending_of_class}
 use Rattle.run_tool.specs.ClassBoards.{BoardSource, OverBoard, OverBoards}
 use Rattle.run_tool.specs.Class.{source_member, IsBuiltAs, ImagesRun, status_by, RunsWhole, RunsCut, RunsClass}
 use Rattle.run_tool.proofs.Readings.{IsOnward, fetch-onwards, text-kept}

@@ -7,7 +7,7 @@ use Rattle.run_tool.specs.declared.class_boards.Boards.{Boards}
 use Rattle.run_tool.specs.Answers.{Answer}
 use Rattle.run_tool.specs.Files.{ToldFiles}
 use Rattle.run_tool.specs.ClassBoards.{BoardSource, OverBoards}
-use Rattle.run_tool.specs.inner.Handed.{none_to_read, AreReady}
+use Rattle.run_tool.specs.inner.{none_to_read, AreReady}
 use Rattle.run_tool.specs.Class.{RunsClass, RunsFile, RunsClassText}
 use Rattle.run_tool.proofs.Readings.{IsOnward}
 use Rattle.run_tool.proofs.ClassAnswers.{class-more, boards-read, boards-onwards, over-boards-more}

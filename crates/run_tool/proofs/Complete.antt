@@ -10,9 +10,10 @@ use Rattle.run_tool.specs.Answers.{Answer, OfSink, status_of, status_number}
 use Rattle.run_tool.specs.Scripts.{OverScript, default_script}
 use Rattle.run_tool.specs.Big.{big_text}
 use Rattle.run_tool.specs.Programs.{WritesImage}
-use Rattle.run_tool.specs.Runs.{RunsProgram, IsImageStatus, RunsBoard, RunsHex}
+use Rattle.run_tool.specs.Run.{RunsProgram}
+use Rattle.run_tool.specs.Runs.{IsImageStatus, RunsBoard, RunsHex}
 use Rattle.run_tool.specs.Orders.{MayAnswer, IsStatusOf, CompletesCommand}
-use Rattle.run_tool.specs.Completeness.{HoldsScript, HoldsFiles, MayEndWith, IsComplete}
+use Rattle.run_tool.specs.Laws.{HoldsScript, HoldsFiles, MayEndWith, IsComplete}
 use Rattle.run_tool.proofs.Readings.{SaysAccepted}
 use Rattle.run_tool.proofs.Headlines.{file-told, script-told, program-told, program-file-told, never}
 use Rattle.run_tool.proofs.ProgramStatuses.{program-number, run-number as program-end}

@@ -19,7 +19,8 @@ use Rattle.sts_words.specs.Orders.{Asked, check_program, build_program, run_prog
 use Rattle.run_tool.specs.Files.{ToldFiles, unfailing, MayFetch, AnswersFetched, AnswersFile}
 use Rattle.run_tool.specs.Answers.{Answer, says, status_of, status_number, OfSink, OfDevices, CommandEnds, Concludes, ending_number}
 use Rattle.run_tool.specs.Scripts.{AnswersScript, OverScript, default_script}
-use Rattle.run_tool.specs.Runs.{run_status, RunsBoard, RunsHex, RunsProgram, RunsText}
+use Rattle.run_tool.specs.Run.{RunsProgram, RunsText}
+use Rattle.run_tool.specs.Runs.{run_status, RunsBoard, RunsHex}
 use Rattle.run_tool.specs.Big.{big_text}
 use Rattle.run_tool.specs.Programs.{OverProgram, ChecksText, WritesImage, BuildsText}
 use Rattle.run_tool.specs.Orders.{MayAnswer, CompletesCommand, IsOfImage, NamesScript}

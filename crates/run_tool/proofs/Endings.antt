@@ -27,7 +27,7 @@ use Rattle.run_tool.specs.declared.fetched.Fetched.{Fetched}
 use Rattle.run_tool.specs.declared.fetched.Fetched.TheVariants.{Text, Absent, Long, Failed}
 use Rattle.run_tool.specs.Files.{ToldFiles, MayFetch, AnswersFetched, AnswersFile}
 use Rattle.run_tool.specs.Answers.{Answer, says, runs, status_of, output_of, ending_number, OfSink, of_sink, OfDevices, of_devices, IsAnswerCut, CommandEnds, Concludes, IsFailureTold, Led}
-use Rattle.run_tool.specs.inner.Handed.{SaysAnswer, GivesOneOf, none_to_read, ending_by, IsScriptOf}
+use Rattle.run_tool.specs.inner.{SaysAnswer, GivesOneOf, none_to_read, ending_by, IsScriptOf}
 use Rattle.run_tool.specs.declared.ending.Status.TheVariants.{Refused}
 use Rattle.run_tool.specs.Programs.{AnswersRefusal, refused_line, OverProgram}
 use Rattle.board_world.specs.Observations.{ByteList}

@@ -43,7 +43,8 @@ use Rattle.run_tool.specs.Files.{ToldFiles, MayFetch, limit, AnswersFetched, Ans
 use Rattle.run_tool.specs.Programs.{OverProgram, IsToldProgram}
 use Rattle.run_tool.specs.Scripts.{AnswersScript, OverScript, RefusesScript, IsToldScript}
 use Rattle.run_tool.specs.Big.{big_text}
-use Rattle.run_tool.specs.Runs.{RunsProgram, asked_behind}
+use Rattle.run_tool.specs.Run.{RunsProgram}
+use Rattle.run_tool.specs.Runs.{asked_behind}
 use Rattle.run_tool.specs.Orders.{MayAnswer, lead_of}
 use Rattle.run_tool.specs.Headline.{AskedRun, AsksForRun, source_board, IsTranscript, IsRunOfImage, Headline}
 

@@ -29,8 +29,9 @@ use Rattle.run_tool.specs.declared.ending.Ending.TheVariants.{Gave, Cut}
 use Rattle.run_tool.specs.Files.{ToldFiles, code_line}
 use Rattle.run_tool.specs.Answers.{Answer, says, runs, Concludes, of_devices, of_sink}
 use Rattle.run_tool.specs.Scripts.{AnswersScript, OverScript}
-use Rattle.run_tool.specs.Runs.{run_status, RunsBoard, RunsProgram, RunsText, RunsHex}
-use Rattle.run_tool.specs.inner.Handed.{ending_of}
+use Rattle.run_tool.specs.Run.{RunsProgram, RunsText}
+use Rattle.run_tool.specs.Runs.{run_status, RunsBoard, RunsHex}
+use Rattle.run_tool.specs.inner.{ending_of}
 use Rattle.board_ports.specs.Account.{Account}
 use Rattle.run_tool.proofs.Readings.{IsOnward, file-onwards}
 

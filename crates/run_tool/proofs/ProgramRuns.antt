@@ -29,8 +29,9 @@ use Rattle.sts_whole.proofs.Laws.{reaches, faultless, run_exists}
 use Rattle.run_tool.specs.declared.ending.Ending.{Ending}
 use Rattle.run_tool.specs.declared.ending.Ending.TheVariants.{Gave, Cut}
 use Rattle.run_tool.specs.Answers.{Answer, runs, Concludes, of_devices, of_sink}
-use Rattle.run_tool.specs.Runs.{run_status, RunsProgram, asked_behind, asked_text, instructions_line}
-use Rattle.run_tool.specs.inner.Handed.{ending_of, ending_by, FinishesRun}
+use Rattle.run_tool.specs.Run.{RunsProgram}
+use Rattle.run_tool.specs.Runs.{run_status, asked_behind, asked_text, instructions_line}
+use Rattle.run_tool.specs.inner.{ending_of, ending_by, FinishesRun}
 use Rattle.board_ports.specs.Account.{Account}
 
 -- where more stands behind, the text that is due may be longer

@@ -13,7 +13,8 @@ use Rattle.sts_whole.specs.Laws.{OneAnswer}
 use Rattle.sts_whole.proofs.Laws.{faultless}
 use Rattle.run_tool.specs.Files.{Telling, unfailing}
 use Rattle.run_tool.specs.Answers.{Answer, status_of, status_number}
-use Rattle.run_tool.specs.Runs.{run_status, RunsProgram, IsProgramStatus}
+use Rattle.run_tool.specs.Run.{RunsProgram}
+use Rattle.run_tool.specs.Runs.{run_status, IsProgramStatus}
 use Rattle.run_tool.specs.Scripts.{OverScript, default_script}
 use Rattle.run_tool.specs.Programs.{OverProgram, WritesImage}
 use Rattle.run_tool.specs.RunAt.{RunsOutside}

@@ -10,7 +10,7 @@ use Rattle.run_tool.specs.declared.ending.Status.TheVariants.{Done}
 use Rattle.run_tool.specs.Answers.{Answer, says}
 use Rattle.run_tool.specs.Files.{ToldFiles, told_by, unfailing, MayFetch, AnswersFetched, AnswersFile}
 use Rattle.run_tool.specs.Programs.{OverProgram}
-use Rattle.run_tool.specs.inner.Handed.{HasText}
+use Rattle.run_tool.specs.inner.{HasText}
 
 -- `check` says that a program is accepted
 abbrev pub SaysAccepted : TypedProgram → List ByteList → Answer → Type 0

@@ -27,7 +27,7 @@ use Rattle.run_tool.specs.declared.ending.Ending.TheVariants.{Gave, Cut}
 use Rattle.run_tool.specs.declared.fetched.Fetched.TheVariants.{Text}
 use Rattle.run_tool.specs.Answers.{Answer, runs, Concludes, of_devices, of_sink}
 use Rattle.run_tool.specs.Runs.{run_status}
-use Rattle.run_tool.specs.inner.Handed.{ending_of, HasText, none_to_read}
+use Rattle.run_tool.specs.inner.{ending_of, HasText, none_to_read}
 use Rattle.run_tool.specs.Scripts.{AnswersScript}
 use Rattle.run_tool.specs.Files.{AnswersFile, ToldFiles, code_line}
 use Rattle.run_tool.specs.RunAt.{AnswersArrivals, RefusesArrivals, RunsProgramAt, RunsOnScript, RunsOutside, RunsTextAt}

@@ -22,7 +22,7 @@ use Rattle.run_tool.specs.declared.fetched.Fetched.TheVariants.{Text}
 use Rattle.run_tool.specs.declared.ending.Ending.{Ending}
 use Rattle.run_tool.specs.declared.ending.Ending.TheVariants.{NoMemory}
 use Rattle.run_tool.specs.Answers.{Answer}
-use Rattle.run_tool.specs.inner.Handed.{GivesOneOf, none_to_read, IsScriptOf, names_of_boards, wants_never, HasText, IsSourceOf, AreReady}
+use Rattle.run_tool.specs.inner.{GivesOneOf, none_to_read, IsScriptOf, names_of_boards, wants_never, HasText, IsSourceOf, AreReady}
 use Rattle.run_tool.specs.Files.{ToldFiles}
 use Rattle.run_tool.specs.Runs.{images}
 use Rattle.run_tool.specs.Programs.{programs, OverProgram}

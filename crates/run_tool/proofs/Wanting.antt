@@ -12,7 +12,7 @@ use Rattle.run_tool.specs.declared.fetched.Fetched.TheVariants.{Text, Absent, Lo
 use Rattle.run_tool.specs.declared.ending.Ending.{Ending}
 use Rattle.run_tool.specs.declared.ending.Ending.TheVariants.{Gave, Cut, NoMemory}
 use Rattle.run_tool.specs.Answers.{Answer, says}
-use Rattle.run_tool.specs.inner.Handed.{GivesOneOf, names_of_boards, wants_never}
+use Rattle.run_tool.specs.inner.{GivesOneOf, names_of_boards, wants_never}
 use Rattle.run_tool.specs.Files.{ToldFiles, told_by, MayFetch, Reading}
 use Rattle.run_tool.specs.Programs.{programs}
 use Rattle.run_tool.specs.Scripts.{scripts}

@@ -4,12 +4,12 @@ pub mod Files
 pub mod Programs
 pub mod Scripts
 pub mod Runs
+pub mod Run
 pub mod RunAt
 pub mod ClassBoards
 pub mod Class
 pub mod Orders
 pub mod Headline
-pub mod Completeness
 pub mod Wanted
 pub mod Laws
 pub mod inner

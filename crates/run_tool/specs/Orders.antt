@@ -6,7 +6,8 @@ use Rattle.run_tool.specs.Answers.{Answer, OfSink, says, status_of, status_numbe
 use Rattle.run_tool.specs.Files.{ToldFiles, unfailing, NeitherFails, AnswersFile}
 use Rattle.run_tool.specs.Big.{big_line, big_text}
 use Rattle.run_tool.specs.Programs.{ChecksText, BuildsText}
-use Rattle.run_tool.specs.Runs.{RunsText, RunsHex}
+use Rattle.run_tool.specs.Run.{RunsText}
+use Rattle.run_tool.specs.Runs.{RunsHex}
 use Rattle.run_tool.specs.RunAt.{RunsTextAt}
 use Rattle.run_tool.specs.Class.{RunsClassText}
 

@@ -1,24 +1,19 @@
--- The runs of an image and of a program as answers.
+-- The run of an image as an answer, and what stands behind a transcript.
 use Rattle.std.specs.Prelude.{◌≡◌, ◌⊎◌, ◌++◌, ℕ, List, [], codes, Bool, Option, Some, None, if◌then◌else◌}
-use Rattle.board_world.specs.Observations.{ByteList, End, Quietly, By_script, Panicked, Faulted}
+use Rattle.board_world.specs.Observations.{End, Quietly, By_script, Panicked, Faulted}
 use Rattle.board_world.specs.Transcript.{count_text, closing_line}
 use Rattle.board_world.specs.Board.{Board, stats_of}
-use Rattle.sts_syntax.specs.TypedTrees.{TypedProgram}
 use Rattle.event_script.specs.declared.script.Script.{Script}
 use Rattle.hex_image.specs.declared.refused.HexCode.{HexCode}
 use Rattle.hex_image.specs.Codes.{number_of}
-use Rattle.hex_image.specs.Laws.{IsImage}
 use Rattle.hex_image.specs.Spells.{Spells, Breaks}
 use Rattle.hex_image.specs.Writing.{hextext}
 use Rattle.board_outside.specs.Moves.{Move, HasMet}
 use Rattle.board_run.specs.Ran.{world_after, IsExecuted}
-use Rattle.sts_implements.specs.Images.{ImageImplements}
-use Rattle.sts_whole.specs.Programs.{source_after, ImageReaches}
 use Rattle.run_tool.specs.declared.ending.Status.{Status}
 use Rattle.run_tool.specs.declared.ending.Status.TheVariants as status
 use Rattle.run_tool.specs.Answers.{Answer, says, runs}
 use Rattle.run_tool.specs.Files.{ToldFiles, Reading, AnswersRead, code_line}
-use Rattle.run_tool.specs.Programs.{OverProgram}
 use Rattle.run_tool.specs.Scripts.{OverScript}
 
 -- the status of a run by its end; none where the budget ended first
@@ -69,24 +64,3 @@ asked_text stats with_image line behind = if stats then line ++ (if with_image t
 abbrev pub asked_behind : (stats with_image : Bool) → Board → (executed : ℕ) → (image : List ℕ) → List ℕ
 asked_behind stats with_image b executed image =
     asked_text stats with_image (stats_of b) (instructions_line executed ++ hextext image)
-
--- The answer is the run of a program on a script within a budget of instructions: what the program's source has met after some counted steps, its closing line, and what is asked for behind
--- it, with the status of its end. An image of bytes that fits into flash implements the program, and its run within the budget reaches these counted steps, for some list of free words.
-pub record RunsProgram (P : TypedProgram) (texts : List ByteList) (script : Script) (budget : ℕ)
-    (stats with_image : Bool) (answer : Answer) : Type 0 where
-  pub image : List ℕ
-  pub is_image : IsImage image
-  pub implements : ImageImplements P texts image
-  pub free : List ℕ
-  pub executed : ℕ
-  pub steps : ℕ
-  pub reaches : ImageReaches P texts image script budget free executed steps
-  pub moves : List Move
-  pub met : HasMet moves (source_after P texts script steps).board
-  pub is : (let b : Board = (source_after P texts script steps).board in answer ≡ runs (run_status b.end) moves
-      (closing_line b.clock b.end ++ asked_behind stats with_image b executed image))
-
--- the answers of `run` to a text: the run of the program on the script that is named
-abbrev pub RunsText : ToldFiles → Option (List ℕ) → (budget : ℕ) → (stats with_image : Bool) → List ℕ → Answer → Type 0
-RunsText files script budget stats with_image =
-    OverProgram (λ P texts. OverScript files script (λ read. RunsProgram P texts read budget stats with_image))

@@ -7,7 +7,7 @@ ghost use Rattle.arrival_file.specs.Sound.{IsSound};
 ghost use Rattle.arrival_file.specs.Verdict.{Tells};
 ghost use Rattle.run_tool.specs.declared.ending.Status.TheVariants as status;
 ghost use Rattle.run_tool.specs.Answers.{IsFailureTold, says};
-ghost use Rattle.run_tool.specs.inner.Handed.{GivesOneOf, HasText, none_to_read};
+ghost use Rattle.run_tool.specs.inner.{GivesOneOf, HasText, none_to_read};
 ghost use Rattle.run_tool.specs.RunAt.{AnswersArrivals};
 ghost use Rattle.run_tool.specs.Files.{code_line, told_by, AnswersFile};
 ghost use Rattle.run_tool.specs.Wanted.{HasAsked, WantsFile, wants_none};

@@ -8,10 +8,10 @@ ghost use Rattle.sts_whole.specs.Accepting as accepting;
 ghost use Rattle.sts_implements.specs.Images.{ImageImplements};
 ghost use Rattle.sts_words.specs.Orders.{IsBudget};
 ghost use Rattle.run_tool.specs.Answers.{Concludes, Led, of_devices, of_sink};
-ghost use Rattle.run_tool.specs.inner.Handed.{GivesOneOf, none_to_read};
+ghost use Rattle.run_tool.specs.inner.{GivesOneOf, none_to_read};
 ghost use Rattle.run_tool.specs.Big as spec;
 ghost use Rattle.run_tool.specs.Programs.{OverProgram, AnswersRefusal};
-ghost use Rattle.run_tool.specs.Runs.{RunsProgram};
+ghost use Rattle.run_tool.specs.Run.{RunsProgram};
 ghost use Rattle.run_tool.specs.Scripts.{default_script};
 
 use crate::ending::{Ending, Status};

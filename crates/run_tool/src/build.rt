@@ -7,7 +7,7 @@ ghost use Rattle.sts_implements.specs.Images.{ImageImplements};
 ghost use Rattle.sts_whole.specs.Built.{Builds};
 ghost use Rattle.sts_base.specs.Faults.{Rose};
 ghost use Rattle.run_tool.specs.Answers.{IsFailureTold};
-ghost use Rattle.run_tool.specs.inner.Handed.{GivesOneOf, none_to_read, FoundNoMemory};
+ghost use Rattle.run_tool.specs.inner.{GivesOneOf, none_to_read, FoundNoMemory};
 ghost use Rattle.run_tool.specs.Programs.{OverProgram, BuildsText, WritesImage};
 ghost use Rattle.run_tool.specs.Wanted.{HasAsked, WantsFile, wants_none};
 ghost use Rattle.run_tool.specs.Files.{told_by, AnswersFile};

@@ -2,7 +2,7 @@
 ghost use Rattle.std.specs.Prelude.{◌≡◌, ◌≤◌};
 ghost use Rattle.sts_base.specs.Faults.{Rose};
 ghost use Rattle.run_tool.specs.Answers.{IsFailureTold};
-ghost use Rattle.run_tool.specs.inner.Handed.{GivesOneOf, FoundNoMemory};
+ghost use Rattle.run_tool.specs.inner.{GivesOneOf, FoundNoMemory};
 ghost use Rattle.run_tool.specs.Programs.{ChecksText};
 ghost use Rattle.run_tool.specs.Wanted.{HasAsked, WantsFile, wants_none};
 ghost use Rattle.run_tool.specs.Files.{told_by, AnswersFile};

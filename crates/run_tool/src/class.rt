@@ -7,7 +7,7 @@ ghost use Rattle.class_file.specs.Within.{AreTexts, IsWithinForm};
 ghost use Rattle.class_radio.specs.Outcome.{setups_of};
 ghost use Rattle.sts_words.specs.Orders.{IsBudget};
 ghost use Rattle.run_tool.specs.Answers.{IsFailureTold};
-ghost use Rattle.run_tool.specs.inner.Handed.{GivesOneOf, FoundNoMemory, CanRun, ending_of_class};
+ghost use Rattle.run_tool.specs.inner.{GivesOneOf, FoundNoMemory, CanRun, ending_of_class};
 ghost use Rattle.run_tool.specs.ClassBoards.{BoardSource, classes};
 ghost use Rattle.run_tool.specs.Class.{IsBuiltAs, RunsClass, RunsFile, RunsClassText};
 ghost use Rattle.run_tool.specs.Wanted.{HasAsked, OrLacks, WantsBoards, WantsFile, wants_none, Onwards};

@@ -12,7 +12,7 @@ ghost use Rattle.class_file.specs.Within.{AreTexts};
 ghost use Rattle.class_file.specs.declared.class.ClassCode.TheVariants as class_code;
 ghost use Rattle.run_tool.specs.declared.ending.Status.TheVariants as status;
 ghost use Rattle.run_tool.specs.Answers.{IsFailureTold, Led, says};
-ghost use Rattle.run_tool.specs.inner.Handed.{GivesOneOf, none_to_read, HasText, IsScriptOf, HasAdded, AreReady, FoundNoMemory, names_of_boards, wants_never};
+ghost use Rattle.run_tool.specs.inner.{GivesOneOf, none_to_read, HasText, IsScriptOf, HasAdded, AreReady, FoundNoMemory, names_of_boards, wants_never};
 ghost use Rattle.run_tool.specs.Files.{AnswersFile, told_by, code_line};
 ghost use Rattle.run_tool.specs.Programs.{AnswersRefusal, programs};
 ghost use Rattle.run_tool.specs.ClassBoards.{refuses_class, OverBoardProgram, OverBoardScript, OverBoard, OverBoards, AnswersBoardScript, board_scripts};

@@ -4,7 +4,7 @@ ghost use Rattle.tool_io.specs.Putting.{PutsTo};
 ghost use Rattle.class_file.specs.Codes.{number_of};
 ghost use Rattle.class_file.specs.Verdict.{Tells};
 ghost use Rattle.class_file.specs.Within.{AreTexts, IsWithinForm};
-ghost use Rattle.run_tool.specs.inner.Handed.{GivesOneOf, none_to_read};
+ghost use Rattle.run_tool.specs.inner.{GivesOneOf, none_to_read};
 ghost use Rattle.run_tool.specs.ClassBoards.{AnswersClassFile, refuses_class};
 ghost use Rattle.run_tool.specs.Files.{code_line};
 

@@ -1,6 +1,6 @@
 // The file that a command names.
 ghost use Rattle.std.specs.Prelude.{◌≡◌, ◌≤◌, List, ℕ, Ok, IfOk, IfErr, OnOk, ◌⊎◌, ◌++◌, ◌∷◌, [], OnErr};
-ghost use Rattle.run_tool.specs.inner.Handed.{FoundNoMemory, wants_never, GivesOneOf, none_to_read};
+ghost use Rattle.run_tool.specs.inner.{FoundNoMemory, wants_never, GivesOneOf, none_to_read};
 ghost use Rattle.sts_base.specs.Faults.{Rose};
 ghost use Rattle.run_tool.specs.Wanted.{HasAsked, WantsFile};
 ghost use Rattle.run_tool.specs.Files.{told_by, MayFetch, AnswersFile};

@@ -9,7 +9,7 @@ ghost use Rattle.arrival_file.specs.Sound.{IsSound};
 ghost use Rattle.sts_implements.specs.Images.{ImageImplements};
 ghost use Rattle.sts_words.specs.Orders.{IsBudget};
 ghost use Rattle.run_tool.specs.Answers.{Concludes, IsFailureTold, of_devices, of_sink};
-ghost use Rattle.run_tool.specs.inner.Handed.{FoundNoMemory};
+ghost use Rattle.run_tool.specs.inner.{FoundNoMemory};
 ghost use Rattle.run_tool.specs.RunAt.{RunsProgramAt, RunsOnScript, RunsOutside, RunsTextAt};
 ghost use Rattle.run_tool.specs.Wanted.{HasAsked, Onwards, OrLacks, WantsFile, WantsOutside, wants_none};
 ghost use Rattle.run_tool.specs.Files.{told_by, AnswersFile};

@@ -10,7 +10,7 @@ ghost use Rattle.sts_words.specs.Orders.{IsBudget};
 ghost use Rattle.sts_words.specs.Views.{spoken};
 ghost use Rattle.run_tool.specs.declared.ending.Status.TheVariants as status;
 ghost use Rattle.run_tool.specs.Answers.{Concludes, IsFailureTold, of_devices, of_sink, says};
-ghost use Rattle.run_tool.specs.inner.Handed.{GivesOneOf, FoundNoMemory, ending_of};
+ghost use Rattle.run_tool.specs.inner.{GivesOneOf, FoundNoMemory, ending_of};
 ghost use Rattle.run_tool.specs.Scripts.{OverScript};
 ghost use Rattle.run_tool.specs.Runs.{RunsBoard, RunsHex, images};
 ghost use Rattle.run_tool.specs.Files.{code_line, told_by, AnswersFile};

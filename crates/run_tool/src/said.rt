@@ -5,7 +5,7 @@ ghost use Rattle.sts_base.specs.Numbers.{number_of};
 ghost use Rattle.sts_whole.specs.Accepting as accepting;
 ghost use Rattle.tool_io.specs.Putting.{Puts};
 ghost use Rattle.run_tool.specs.Answers.{says};
-ghost use Rattle.run_tool.specs.inner.Handed.{GivesOneOf, none_to_read};
+ghost use Rattle.run_tool.specs.inner.{GivesOneOf, none_to_read};
 ghost use Rattle.run_tool.specs.Programs.{AnswersRefusal, refused_line, OverProgram};
 
 use crate::ending::{Ending, Status};

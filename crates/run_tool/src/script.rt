@@ -9,7 +9,7 @@ ghost use Rattle.event_script.specs.Verdict.{Tells};
 ghost use Rattle.sts_words.specs.Views.{spoken};
 ghost use Rattle.run_tool.specs.declared.ending.Status.TheVariants as status;
 ghost use Rattle.run_tool.specs.Answers.{IsFailureTold, says};
-ghost use Rattle.run_tool.specs.inner.Handed.{GivesOneOf, IsScriptOf, FoundNoMemory, wants_never, none_to_read};
+ghost use Rattle.run_tool.specs.inner.{GivesOneOf, IsScriptOf, FoundNoMemory, wants_never, none_to_read};
 ghost use Rattle.run_tool.specs.Scripts.{AnswersScript, OverScript, default_script};
 ghost use Rattle.run_tool.specs.Files.{code_line, told_by};
 ghost use Rattle.run_tool.specs.Wanted.{HasAsked, WantsScript};

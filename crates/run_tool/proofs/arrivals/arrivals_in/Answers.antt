@@ -5,7 +5,7 @@ use Rattle.run_tool.specs.declared.ending.Status.TheVariants.{ArrivalsRefused}
 use Rattle.run_tool.specs.Answers.{says}
 use Rattle.run_tool.specs.RunAt.{AnswersArrivals}
 use Rattle.run_tool.specs.Files.{code_line}
-use Rattle.run_tool.specs.inner.Handed.{none_to_read}
+use Rattle.run_tool.specs.inner.{none_to_read}
 use Rattle.run_tool.proofs.Endings.{gives-more}
 use Rattle.run_tool.proofs.RunsAt.{refuses-arrivals}
 use Rattle.run_tool.proofs.arrivals.arrivals_in.Goals as goal

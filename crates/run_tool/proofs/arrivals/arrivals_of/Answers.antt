@@ -1,7 +1,7 @@
 use Rattle.std.proofs.Common.{List, subst, Ok, ◌≡◌, refl, inl, le_refl, ap}
 use Rattle.arrival_file.specs.Verdict.{Tells}
 use Rattle.run_tool.specs.RunAt.{AnswersArrivals}
-use Rattle.run_tool.specs.inner.Handed.{none_to_read, wants_never}
+use Rattle.run_tool.specs.inner.{none_to_read, wants_never}
 use Rattle.run_tool.proofs.Endings.{if-ok, if-err, text-gives, no-text-gives}
 use Rattle.std.specs.Prelude.{Result, IsErrOf, Err}
 use Rattle.arrival_file.specs.declared.arrival.Arrival.{Arrival}

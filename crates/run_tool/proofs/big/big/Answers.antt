@@ -4,7 +4,7 @@ use Rattle.sts_syntax.specs.TypedTrees.{TypedProgram}
 use Rattle.run_tool.specs.Answers.{Concludes, of_devices, of_sink}
 use Rattle.run_tool.specs.Big.{big_line}
 use Rattle.run_tool.specs.Programs.{OverProgram}
-use Rattle.run_tool.specs.Runs.{RunsProgram}
+use Rattle.run_tool.specs.Run.{RunsProgram}
 use Rattle.run_tool.specs.Scripts.{default_script}
 use Rattle.run_tool.proofs.big.big.Goals as goal
 

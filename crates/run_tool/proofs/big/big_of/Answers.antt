@@ -3,8 +3,8 @@ use Rattle.board_world.specs.Observations.{ByteList}
 use Rattle.sts_syntax.specs.TypedTrees.{TypedProgram}
 use Rattle.run_tool.specs.Big.{big_line}
 use Rattle.run_tool.specs.Programs.{OverProgram}
-use Rattle.run_tool.specs.inner.Handed.{none_to_read}
-use Rattle.run_tool.specs.Runs.{RunsProgram}
+use Rattle.run_tool.specs.inner.{none_to_read}
+use Rattle.run_tool.specs.Run.{RunsProgram}
 use Rattle.run_tool.specs.Scripts.{default_script}
 use Rattle.run_tool.proofs.Endings.{concludes-more, led-concludes, no-program, of-program}
 use Rattle.run_tool.proofs.big.big_of.Goals as goal

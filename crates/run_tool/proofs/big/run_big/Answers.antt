@@ -2,7 +2,7 @@ use Rattle.std.proofs.Common.{subst, refl, [], rules, All, ◌<◌, ◌≤◌, l
 use Rattle.hex_image.specs.Spells.{flash_size}
 use Rattle.run_tool.specs.Answers.{Concludes, of_devices, of_sink}
 use Rattle.run_tool.specs.Big.{big_line}
-use Rattle.run_tool.specs.Runs.{RunsProgram}
+use Rattle.run_tool.specs.Run.{RunsProgram}
 use Rattle.run_tool.specs.Scripts.{default_script}
 use Rattle.run_tool.proofs.Endings.{concludes-behind, lead-concludes}
 use Rattle.run_tool.proofs.ProgramRuns.{some-run}

@@ -3,7 +3,7 @@ use Rattle.sts_whole.specs.Accepting as accepting
 use Rattle.run_tool.specs.Answers.{Led}
 use Rattle.run_tool.specs.Big.{big_line}
 use Rattle.run_tool.specs.Programs.{AnswersRefusal, OverProgram}
-use Rattle.run_tool.specs.inner.Handed.{none_to_read}
+use Rattle.run_tool.specs.inner.{none_to_read}
 use Rattle.run_tool.proofs.Endings.{gives-more, led-more}
 use Rattle.run_tool.proofs.big.say_big_refused.Goals as goal
 

@@ -3,7 +3,7 @@ use Rattle.run_tool.proofs.Endings.{text-gives, no-text-gives}
 use Rattle.std.proofs.Common.{◌≡◌, refl, inl, le_refl}
 use Rattle.run_tool.specs.declared.ending.Ending.TheVariants.{NoMemory}
 use Rattle.run_tool.specs.Wanted.{OrLacks, WantsFile, wants_none}
-use Rattle.run_tool.specs.inner.Handed.{wants_never}
+use Rattle.run_tool.specs.inner.{wants_never}
 use Rattle.run_tool.proofs.Wanting.{asked-more, asked-none, file-missed, then-behind}
 use Rattle.run_tool.specs.Files.{told_by}
 use Rattle.run_tool.proofs.check.check.Goals as goal

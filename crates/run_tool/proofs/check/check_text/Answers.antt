@@ -2,7 +2,7 @@ use Rattle.std.proofs.Common.{◌≡◌, codes, inl, subst, sym}
 use Rattle.sts_syntax.specs.TypedViews.{typed_program}
 use Rattle.run_tool.specs.declared.ending.Status.TheVariants.{Done}
 use Rattle.run_tool.specs.Answers.{says}
-use Rattle.run_tool.specs.inner.Handed.{GivesOneOf}
+use Rattle.run_tool.specs.inner.{GivesOneOf}
 use Rattle.run_tool.specs.Programs.{ChecksText}
 use Rattle.run_tool.proofs.Readings.{SaysAccepted}
 use Rattle.run_tool.proofs.Endings.{gives-more, no-program-gives}

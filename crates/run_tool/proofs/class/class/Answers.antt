@@ -5,7 +5,7 @@ use Rattle.run_tool.proofs.ClassTexts.{class-text-onwards}
 use Rattle.std.proofs.Common.{◌≡◌}
 use Rattle.run_tool.specs.declared.ending.Ending.TheVariants.{NoMemory}
 use Rattle.run_tool.specs.Wanted.{OrLacks, WantsFile, Onwards, WantsBoards, wants_none}
-use Rattle.run_tool.specs.inner.Handed.{wants_never}
+use Rattle.run_tool.specs.inner.{wants_never}
 use Rattle.run_tool.proofs.Wanting.{asked-more, boards-more, file-missed, onwards-more, or-more, then-behind}
 use Rattle.run_tool.specs.ClassBoards.{classes}
 use Rattle.run_tool.proofs.Readings.{last-part}

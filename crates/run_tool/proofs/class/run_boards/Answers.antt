@@ -1,7 +1,7 @@
 use Rattle.std.proofs.Common.{subst, sym, []}
 use Rattle.tool_io.specs.Putting.{Took}
 use Rattle.tool_io.proofs.Laws.{took-nothing}
-use Rattle.run_tool.specs.inner.Handed.{GivesOneOf}
+use Rattle.run_tool.specs.inner.{GivesOneOf}
 use Rattle.run_tool.specs.Class.{RunsClass}
 use Rattle.class_radio.specs.Outcome.{setups_of}
 use Rattle.run_tool.proofs.ClassRuns.{class-ends}

@@ -2,7 +2,7 @@ use Rattle.std.proofs.Common.{subst, [], List, ◌≡◌, ◌++◌, refl}
 use Rattle.tool_io.specs.Putting.{Took}
 use Rattle.tool_io.proofs.Laws.{took-nothing}
 use Rattle.class_file.specs.declared.class.Names.{Names}
-use Rattle.run_tool.specs.inner.Handed.{GivesOneOf, none_to_read, AreReady, names_of_boards, wants_never}
+use Rattle.run_tool.specs.inner.{GivesOneOf, none_to_read, AreReady, names_of_boards, wants_never}
 use Rattle.run_tool.specs.ClassBoards.{OverBoards}
 use Rattle.run_tool.specs.Class.{RunsClass, RunsFile}
 use Rattle.run_tool.proofs.Endings.{gives-more, gives-after}

@@ -3,7 +3,7 @@ use Rattle.tool_io.specs.Putting.{Took}
 use Rattle.tool_io.proofs.Laws.{took-nothing}
 use Rattle.class_file.specs.declared.class.ClassFile.{ClassFile}
 use Rattle.run_tool.specs.ClassBoards.{AnswersClassFile, classes}
-use Rattle.run_tool.specs.inner.Handed.{none_to_read}
+use Rattle.run_tool.specs.inner.{none_to_read}
 use Rattle.run_tool.specs.Class.{RunsFile, RunsClassText}
 use Rattle.run_tool.proofs.Endings.{gives-more, gives-after}
 use Rattle.run_tool.proofs.ClassAnswers.{no-class}

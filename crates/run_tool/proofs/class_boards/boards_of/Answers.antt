@@ -5,7 +5,7 @@ use Rattle.tool_io.proofs.Laws.{took-nothing}
 use Rattle.class_file.specs.declared.class.Names.{Names}
 use Rattle.class_file.specs.Within.{AreTexts}
 use Rattle.run_tool.specs.ClassBoards.{OverBoard, OverBoards}
-use Rattle.run_tool.specs.inner.Handed.{none_to_read, AreReady, names_of_boards}
+use Rattle.run_tool.specs.inner.{none_to_read, AreReady, names_of_boards}
 use Rattle.run_tool.proofs.Endings.{gives-more, gives-after, told-on}
 use Rattle.run_tool.proofs.ClassRuns.{none-ready, next-ready, next-answered}
 use Rattle.run_tool.specs.declared.ending.Ending.TheVariants.{NoMemory}

@@ -1,5 +1,5 @@
 use Rattle.std.proofs.Common.{◌≡◌, ◌≤◌, ◌++◌, ℕ, List, take}
-use Rattle.run_tool.specs.inner.Handed.{AreReady, names_of_boards}
+use Rattle.run_tool.specs.inner.{AreReady, names_of_boards}
 use Rattle.run_tool.proofs.class_boards.boards_of.Given as goal
 use Rattle.run_tool.specs.Files.{told_by}
 

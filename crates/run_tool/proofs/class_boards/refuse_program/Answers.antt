@@ -1,7 +1,7 @@
 use Rattle.std.proofs.Common.{subst}
 use Rattle.run_tool.specs.declared.ending.Status.TheVariants.{Refused}
 use Rattle.run_tool.specs.Answers.{Led}
-use Rattle.run_tool.specs.inner.Handed.{GivesOneOf, ending_by}
+use Rattle.run_tool.specs.inner.{GivesOneOf, ending_by}
 use Rattle.class_world.specs.Lines.{board_lead}
 use Rattle.run_tool.specs.Programs.{AnswersRefusal}
 use Rattle.run_tool.proofs.Endings.{refused-led}

@@ -4,7 +4,7 @@ use Rattle.run_tool.specs.Answers.{Led}
 use Rattle.run_tool.specs.Programs.{AnswersRefusal}
 use Rattle.run_tool.specs.ClassBoards.{OverBoardProgram}
 use Rattle.class_world.specs.Lines.{board_lead}
-use Rattle.run_tool.specs.inner.Handed.{none_to_read}
+use Rattle.run_tool.specs.inner.{none_to_read}
 use Rattle.run_tool.proofs.Endings.{gives-more}
 use Rattle.run_tool.proofs.class_boards.say_program_refused.Goals as goal
 

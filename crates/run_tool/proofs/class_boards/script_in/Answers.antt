@@ -7,7 +7,7 @@ use Rattle.class_file.specs.declared.class.ClassCode.TheVariants.{EndDiffers}
 use Rattle.run_tool.specs.declared.ending.Status.TheVariants.{ScriptRefused}
 use Rattle.run_tool.specs.Answers.{says}
 use Rattle.run_tool.specs.Files.{code_line}
-use Rattle.run_tool.specs.inner.Handed.{none_to_read}
+use Rattle.run_tool.specs.inner.{none_to_read}
 use Rattle.run_tool.specs.ClassBoards.{refuses_class, AnswersBoardScript, no_script, other_end}
 use Rattle.class_world.specs.Lines.{board_lead}
 use Rattle.run_tool.proofs.Endings.{if-ok, gives-more, refuses-script}

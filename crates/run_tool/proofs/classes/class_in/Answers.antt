@@ -1,7 +1,7 @@
 use Rattle.std.proofs.Common.{◌≡◌, ap, ◌∙◌, inr}
 use Rattle.std.specs.Prelude.{Err}
 use Rattle.run_tool.specs.ClassBoards.{AnswersClassFile, refuses_class}
-use Rattle.run_tool.specs.inner.Handed.{none_to_read}
+use Rattle.run_tool.specs.inner.{none_to_read}
 use Rattle.run_tool.proofs.Endings.{gives-more}
 use Rattle.run_tool.proofs.ClassAnswers.{refuses-class}
 use Rattle.run_tool.proofs.classes.class_in.Goals as goal

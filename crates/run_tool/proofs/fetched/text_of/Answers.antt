@@ -2,7 +2,7 @@ use Rattle.std.proofs.Common.{◌≡◌, ◌∷◌, [], refl, subst, inl}
 use Rattle.run_tool.specs.declared.fetched.Fetched.TheVariants.{Absent, Long, Failed}
 use Rattle.run_tool.specs.declared.ending.Ending.TheVariants.{NoMemory}
 use Rattle.run_tool.specs.Files.{MayFetch, told_by}
-use Rattle.run_tool.specs.inner.Handed.{wants_never}
+use Rattle.run_tool.specs.inner.{wants_never}
 use Rattle.run_tool.proofs.Wanting.{file-ended, file-lacked}
 use Rattle.run_tool.proofs.fetched.text_of.Goals as goal
 

@@ -1,6 +1,6 @@
 use Rattle.std.proofs.Common.{subst, sym, ap, ◌∙◌}
 use Rattle.run_tool.specs.declared.ending.Ending.TheVariants.{Gave, Cut}
-use Rattle.run_tool.specs.inner.Handed.{FinishesRun, ending_by}
+use Rattle.run_tool.specs.inner.{FinishesRun, ending_by}
 use Rattle.run_tool.proofs.ProgramRuns.{counted_behind}
 use Rattle.run_tool.proofs.run.finish.Goals as goal
 

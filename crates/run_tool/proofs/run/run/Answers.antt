@@ -1,13 +1,13 @@
 use Rattle.std.proofs.Common.{refl, ◌≡◌}
 use Rattle.std.specs.Option.{option_map}
 use Rattle.sts_words.specs.Views.{spoken}
-use Rattle.run_tool.specs.Runs.{RunsText}
+use Rattle.run_tool.specs.Run.{RunsText}
 use Rattle.run_tool.specs.Files.{AnswersFile, told_by}
 use Rattle.run_tool.proofs.Endings.{no-text-gives, concludes-more, text-concludes, says-concludes, told-on}
 use Rattle.run_tool.proofs.ImageRuns.{program-onwards}
 use Rattle.run_tool.specs.declared.ending.Ending.TheVariants.{NoMemory}
 use Rattle.run_tool.specs.Wanted.{Onwards, OrLacks, WantsFile, WantsScript, wants_none}
-use Rattle.run_tool.specs.inner.Handed.{wants_never}
+use Rattle.run_tool.specs.inner.{wants_never}
 use Rattle.run_tool.proofs.Wanting.{asked-more, file-missed, onwards-more, or-more, then-behind, script-more}
 use Rattle.run_tool.proofs.Readings.{last-part}
 use Rattle.run_tool.specs.Programs.{programs}

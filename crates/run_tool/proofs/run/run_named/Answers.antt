@@ -3,9 +3,9 @@ use Rattle.std.specs.Option.{option_to_list, option_map}
 use Rattle.sts_words.specs.Views.{spoken}
 use Rattle.tool_io.specs.Putting.{Took}
 use Rattle.tool_io.proofs.Laws.{took-nothing}
-use Rattle.run_tool.specs.Runs.{RunsProgram}
+use Rattle.run_tool.specs.Run.{RunsProgram}
 use Rattle.run_tool.specs.Scripts.{OverScript}
-use Rattle.run_tool.specs.inner.Handed.{none_to_read, wants_never}
+use Rattle.run_tool.specs.inner.{none_to_read, wants_never}
 use Rattle.run_tool.proofs.Endings.{gives-more, concludes-more, concludes-after, says-concludes, no-script, over-script}
 use Rattle.run_tool.specs.declared.ending.Ending.TheVariants.{NoMemory}
 use Rattle.run_tool.specs.Wanted.{WantsScript, wants_none}

@@ -5,7 +5,7 @@ use Rattle.tool_io.specs.Putting.{Took}
 use Rattle.tool_io.proofs.Laws.{took-nothing}
 use Rattle.board_world.specs.Observations.{ByteList}
 use Rattle.sts_syntax.specs.TypedTrees.{TypedProgram}
-use Rattle.run_tool.specs.Runs.{RunsProgram, RunsText}
+use Rattle.run_tool.specs.Run.{RunsProgram, RunsText}
 use Rattle.run_tool.specs.Scripts.{OverScript}
 use Rattle.run_tool.proofs.Endings.{concludes-more, concludes-after, says-concludes, no-program-gives, of-program}
 use Rattle.run_tool.specs.declared.ending.Ending.TheVariants.{NoMemory}

@@ -3,7 +3,7 @@ use Rattle.tool_io.specs.Putting.{Took}
 use Rattle.tool_io.proofs.Laws.{took-nothing}
 use Rattle.run_tool.specs.Files.{AnswersFile, told_by}
 use Rattle.run_tool.specs.RunAt.{AnswersArrivals, RunsProgramAt, RunsOnScript}
-use Rattle.run_tool.specs.inner.Handed.{none_to_read}
+use Rattle.run_tool.specs.inner.{none_to_read}
 use Rattle.run_tool.proofs.Endings.{gives-more, concludes-more, concludes-after, says-concludes}
 use Rattle.run_tool.proofs.RunsAt.{no-arrivals, over-arrivals}
 use Rattle.std.specs.Prelude.{IsErrOf}

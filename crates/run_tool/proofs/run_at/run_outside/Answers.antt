@@ -2,7 +2,7 @@ use Rattle.std.proofs.Common.{subst, refl, [], Some, ◌≡◌}
 use Rattle.tool_io.specs.Putting.{Took}
 use Rattle.tool_io.proofs.Laws.{took-nothing}
 use Rattle.run_tool.specs.Scripts.{OverScript}
-use Rattle.run_tool.specs.inner.Handed.{none_to_read, wants_never}
+use Rattle.run_tool.specs.inner.{none_to_read, wants_never}
 use Rattle.run_tool.specs.RunAt.{RunsOnScript, RunsOutside}
 use Rattle.run_tool.proofs.Endings.{gives-more, concludes-more, concludes-after, says-concludes, no-script, over-script, told-on}
 use Rattle.run_tool.proofs.RunsAt.{script-runs-onwards}

@@ -7,7 +7,7 @@ use Rattle.run_tool.proofs.Endings.{no-text-gives, concludes-more, text-conclude
 use Rattle.run_tool.proofs.ImageRuns.{hex-onwards}
 use Rattle.run_tool.specs.declared.ending.Ending.TheVariants.{NoMemory}
 use Rattle.run_tool.specs.Wanted.{Onwards, OrLacks, WantsFile, WantsScript, wants_none}
-use Rattle.run_tool.specs.inner.Handed.{wants_never}
+use Rattle.run_tool.specs.inner.{wants_never}
 use Rattle.run_tool.proofs.Wanting.{asked-more, file-missed, onwards-more, or-more, then-behind, script-more}
 use Rattle.run_tool.proofs.Readings.{last-part}
 use Rattle.run_tool.proofs.run_hex.run_hex.Goals as goal

@@ -1,7 +1,7 @@
 use Rattle.std.proofs.Common.{subst, inr}
 use Rattle.sts_whole.specs.Accepting as accepting
 use Rattle.run_tool.specs.Programs.{AnswersRefusal, OverProgram}
-use Rattle.run_tool.specs.inner.Handed.{none_to_read}
+use Rattle.run_tool.specs.inner.{none_to_read}
 use Rattle.run_tool.proofs.Endings.{gives-more}
 use Rattle.run_tool.proofs.said.say_refusal.Goals as goal
 

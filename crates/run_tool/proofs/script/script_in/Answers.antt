@@ -5,7 +5,7 @@ use Rattle.run_tool.specs.declared.ending.Status.TheVariants.{ScriptRefused}
 use Rattle.run_tool.specs.Answers.{says}
 use Rattle.run_tool.specs.Scripts.{AnswersScript}
 use Rattle.run_tool.specs.Files.{code_line}
-use Rattle.run_tool.specs.inner.Handed.{none_to_read}
+use Rattle.run_tool.specs.inner.{none_to_read}
 use Rattle.run_tool.proofs.Endings.{gives-more, refuses-script}
 use Rattle.run_tool.proofs.script.script_in.Goals as goal
 

@@ -4,7 +4,7 @@ use Rattle.std.specs.declared.option.Option.{Option}
 use Rattle.std.specs.Borrow.{Bor}
 use Rattle.sts_words.specs.Views.{spoken}
 use Rattle.event_script.specs.Verdict.{Tells}
-use Rattle.run_tool.specs.inner.Handed.{GivesOneOf, IsScriptOf, wants_never, none_to_read}
+use Rattle.run_tool.specs.inner.{GivesOneOf, IsScriptOf, wants_never, none_to_read}
 use Rattle.run_tool.specs.Scripts.{AnswersScript, OverScript, scripts}
 use Rattle.run_tool.proofs.Endings.{if-ok, if-err, text-gives}
 use Rattle.run_tool.specs.declared.ending.Ending.TheVariants.{NoMemory}

@@ -5,7 +5,7 @@ use Rattle.sts_whole.specs.Built.{Builds}
 use Rattle.tool_io.specs.Putting.{Took}
 use Rattle.tool_io.proofs.Laws.{took-nothing}
 use Rattle.run_tool.specs.Files.{AnswersFile, told_by}
-use Rattle.run_tool.specs.inner.Handed.{GivesOneOf, none_to_read, HasText, IsScriptOf, wants_never}
+use Rattle.run_tool.specs.inner.{GivesOneOf, none_to_read, HasText, IsScriptOf, wants_never}
 use Rattle.run_tool.specs.ClassBoards.{OverBoardProgram, OverBoardScript, OverBoard, board_scripts}
 use Rattle.run_tool.proofs.Endings.{if-err, gives-more, gives-after, told-on}
 use Rattle.run_tool.proofs.ClassAnswers.{on-oks, image-onwards, board-refused, script-answered}
