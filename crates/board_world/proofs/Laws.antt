@@ -30,4 +30,4 @@ pub use Rattle.board_world.proofs.Boards.{kept_run, kept_arrive, ends_soundly, e
 -- typed activities make no fault, and there a simulation that owes nothing at faults is a whole one
 pub use Rattle.board_world.proofs.Sound.{holds, loosened, partial_loosened, starts, never_faults, sound_below, implements, trailing_implements}
 -- simulations that trail behind a turn
-pub use Rattle.board_world.proofs.Trails.{is_complete, partial_trails_by_nothing, partial_trailing_compose}
+pub use Rattle.board_world.proofs.ComposedTrails.{is_complete, partial_trails_by_nothing, partial_trailing_compose}

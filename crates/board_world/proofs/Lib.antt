@@ -5,7 +5,7 @@ mod Pairs
 mod Lift
 mod Compose
 mod Trailing
-mod Trails
+mod ComposedTrails
 mod Between
 mod ByList
 mod Late

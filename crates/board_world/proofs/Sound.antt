@@ -14,7 +14,7 @@ use Rattle.board_world.specs.Composed.{level}
 use Rattle.board_world.specs.Implements.{EndsByNoFault, Implements, boards_from}
 use Rattle.board_world.specs.Trailing.{PartialTrailingSimulation}
 use Rattle.board_world.proofs.Trailing.{TrailingSimulation}
-use Rattle.board_world.proofs.Trails.{partial_trails_by_nothing}
+use Rattle.board_world.proofs.ComposedTrails.{partial_trails_by_nothing}
 use Rattle.board_world.proofs.Stays.{if_keeps}
 use Rattle.board_world.proofs.Boards.{kept_run, kept_arrive, sound_closed}
 use Rattle.board_world.proofs.Arrive.{lifts_with, trailing_lifts_with}

@@ -31,7 +31,7 @@ use Rattle.arena_values.proofs.Laws.{PushesAs, pushes_as}
 use Rattle.emit_simulation.specs.Starts.{start}
 use Rattle.emit_simulation.specs.Ties.{IsAt, IsShared, IsImage, Means, IsText, IsCode}
 use Rattle.emit_simulation.proofs.AtOps.{shared_seen}
-use Rattle.emit_simulation.proofs.Makes.{MakesOp}
+use Rattle.emit_simulation.proofs.OwedOps.{MakesOp}
 use Rattle.emit_simulation.proofs.Turns.{Owed, going}
 use Rattle.emit_simulation.proofs.Loading.{loaded}
 use Rattle.emit_simulation.proofs.Services.{v, asking_fiber, asking_shared, its_shows, Serves, settled_over, asks_turn}

@@ -31,7 +31,7 @@ use Rattle.emit_simulation.proofs.Laid.{over, steps_of}
 use Rattle.emit_simulation.specs.Starts.{start}
 use Rattle.emit_simulation.specs.Ties.{IsAt, IsShared, IsImage, Means, spots, calls_at, calling_of, return_in}
 use Rattle.emit_simulation.proofs.AtOps.{view_in, bank_in}
-use Rattle.emit_simulation.proofs.Makes.{MakesOp}
+use Rattle.emit_simulation.proofs.OwedOps.{MakesOp}
 use Rattle.emit_simulation.proofs.Flowing.{flows, each_goes}
 use Rattle.emit_simulation.proofs.Starts.{first_of, rest_of}
 use Rattle.emit_simulation.proofs.Context.{all_at}

@@ -36,7 +36,7 @@ use Rattle.emit_simulation.proofs.Laid.{OfInstr, Comes, steps_of}
 use Rattle.emit_simulation.specs.Starts.{start}
 use Rattle.emit_simulation.specs.Ties.{IsAt, IsShared, IsImage, IsText, IsCode, spots}
 use Rattle.emit_simulation.proofs.AtOps.{view_in, bank_in}
-use Rattle.emit_simulation.proofs.Makes.{MakesOp}
+use Rattle.emit_simulation.proofs.OwedOps.{MakesOp}
 use Rattle.emit_simulation.proofs.Flowing.{branches, passes_by, then}
 use Rattle.emit_simulation.proofs.Placed.{brought, brought_word, brought_store, brought_length}
 use Rattle.emit_simulation.proofs.Starts.{op_stands, first_of, stand_as}

@@ -7,7 +7,7 @@ use Rattle.flat_ir.specs.declared.ops.FlatCode.{FlatCode}
 use Rattle.register_assign.specs.declared.places.Placed.{Placed}
 use Rattle.thumb_emit.specs.InFlash.{Addresses}
 use Rattle.emit_simulation.specs.Ties.{IsImage}
-use Rattle.emit_simulation.proofs.Makes.{MakesOp}
+use Rattle.emit_simulation.proofs.OwedOps.{MakesOp}
 use Rattle.emit_simulation.proofs.Simple.{const_makes, copy_makes, text_makes, handler_makes}
 use Rattle.emit_simulation.proofs.Globals.{global_get_makes, global_set_makes}
 use Rattle.emit_simulation.proofs.Control.{jump_makes, branch_makes}

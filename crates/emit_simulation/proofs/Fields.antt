@@ -33,7 +33,7 @@ use Rattle.emit_simulation.proofs.Laid.{loaded_flags, OfInstr, OfNumber, Flows, 
 use Rattle.emit_simulation.specs.Starts.{start}
 use Rattle.emit_simulation.specs.Ties.{IsAt, IsShared, IsImage, Means, IsText, IsCode, spots}
 use Rattle.emit_simulation.proofs.AtOps.{view_in}
-use Rattle.emit_simulation.proofs.Makes.{MakesOp}
+use Rattle.emit_simulation.proofs.OwedOps.{MakesOp}
 use Rattle.emit_simulation.proofs.Placed.{store_low, result_set, not_scratch, brought, brought_word, brought_other, brought_store, brought_length, made_small}
 use Rattle.emit_simulation.proofs.Meanings.{small, none_some}
 use Rattle.emit_simulation.proofs.Ops.{here, word, word_means, word_small, brings_word}

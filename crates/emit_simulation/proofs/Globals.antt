@@ -28,7 +28,7 @@ use Rattle.emit_simulation.proofs.Laid.{loaded_flags, OfInstr, OfNumber}
 use Rattle.emit_simulation.specs.Starts.{start}
 use Rattle.emit_simulation.specs.Ties.{IsAt, IsShared, IsImage, IsText, IsCode}
 use Rattle.emit_simulation.proofs.AtOps.{view_in}
-use Rattle.emit_simulation.proofs.Makes.{MakesOp}
+use Rattle.emit_simulation.proofs.OwedOps.{MakesOp}
 use Rattle.emit_simulation.proofs.Placed.{store_low, result_set, not_scratch, brought, brought_word, brought_store, brought_length, made_small}
 use Rattle.thumb_emit.specs.Frame.{register_of, result_in}
 use Rattle.emit_simulation.proofs.Meanings.{small}

@@ -1,6 +1,6 @@
 pub mod Laid
 pub mod AtOps
-pub mod Makes
+pub mod OwedOps
 pub mod Leaving
 pub mod Flowing
 pub mod Holding

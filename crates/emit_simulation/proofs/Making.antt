@@ -42,7 +42,7 @@ use Rattle.emit_simulation.proofs.Laid.{store_of, OfInstr, OfNumber, OfAddress, 
 use Rattle.emit_simulation.specs.Starts.{start}
 use Rattle.emit_simulation.specs.Ties.{IsAt, IsShared, IsImage, Means, IsText, IsCode, spots}
 use Rattle.emit_simulation.proofs.AtOps.{view_in, fiber_seen, shared_seen}
-use Rattle.emit_simulation.proofs.Makes.{MakesOp}
+use Rattle.emit_simulation.proofs.OwedOps.{MakesOp}
 use Rattle.emit_simulation.proofs.Placed.{store_low, mov_flows}
 use Rattle.emit_simulation.proofs.Ops.{here}
 use Rattle.emit_simulation.proofs.Turns.{Owed}

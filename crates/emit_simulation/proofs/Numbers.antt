@@ -35,7 +35,7 @@ use Rattle.emit_simulation.proofs.Starts.{StandAt, first_of, rest_of}
 use Rattle.emit_simulation.specs.Ties.{IsAt, IsShared, IsImage, IsText, IsCode, Means, spots, place_in, return_to, frames_of}
 use Rattle.emit_simulation.proofs.AtOps.{view_in, bank_in}
 use Rattle.emit_simulation.proofs.Leaving.{AllLeave}
-use Rattle.emit_simulation.proofs.Makes.{MakesOp}
+use Rattle.emit_simulation.proofs.OwedOps.{MakesOp}
 use Rattle.emit_simulation.proofs.Flowing.{flows, flows_one, then}
 use Rattle.emit_simulation.proofs.Placed.{brought, brought_word, brought_other, brought_store, brought_length, register_small, not_scratch, result_over, kept_view, kept_shared, kept_low, store_kept, made_small, made_not}
 use Rattle.emit_simulation.proofs.Straight.{keeps_last}

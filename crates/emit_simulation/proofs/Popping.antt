@@ -30,7 +30,7 @@ use Rattle.emit_simulation.proofs.Laid.{OfInstr, Flows, store_of}
 use Rattle.emit_simulation.specs.Starts.{start}
 use Rattle.emit_simulation.specs.Ties.{IsAt, IsShared, IsImage, Means, IsText, IsCode, spots}
 use Rattle.emit_simulation.proofs.AtOps.{view_in}
-use Rattle.emit_simulation.proofs.Makes.{MakesOp}
+use Rattle.emit_simulation.proofs.OwedOps.{MakesOp}
 use Rattle.emit_simulation.proofs.Placed.{store_low, result_set, not_scratch, brought, brought_length, brought_store, made_small}
 use Rattle.thumb_emit.specs.Frame.{register_of, result_in}
 use Rattle.emit_simulation.proofs.Meanings.{small}

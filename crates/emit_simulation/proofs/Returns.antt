@@ -53,7 +53,7 @@ use Rattle.emit_simulation.proofs.Laid.{Fm, over, Laid, IsEven, step_of, store_o
 use Rattle.emit_simulation.specs.Starts.{start}
 use Rattle.emit_simulation.specs.Ties.{IsAt, AtEntry, AtOp, IsShared, IsImage, Means, spots, place_in, place_at, return_in, return_to, frame_of, frames_of, calls_at, calling_of, stack_end}
 use Rattle.emit_simulation.proofs.AtOps.{view_in, bank_in}
-use Rattle.emit_simulation.proofs.Makes.{MakesOp}
+use Rattle.emit_simulation.proofs.OwedOps.{MakesOp}
 use Rattle.emit_simulation.proofs.Flowing.{flows_one}
 use Rattle.emit_simulation.proofs.Placed.{landed_view, landed_low, landed_shared}
 use Rattle.emit_simulation.proofs.Paths.{path}

@@ -24,7 +24,7 @@ use Rattle.placed_frames.proofs.Laws.{View, with_low}
 use Rattle.emit_simulation.proofs.Laid.{loaded_flags, OfNumber, OfAddress}
 use Rattle.emit_simulation.specs.Ties.{IsImage, Means, bodies, spots, place_in, return_to, frames_of}
 use Rattle.emit_simulation.proofs.AtOps.{view_in}
-use Rattle.emit_simulation.proofs.Makes.{MakesOp}
+use Rattle.emit_simulation.proofs.OwedOps.{MakesOp}
 use Rattle.emit_simulation.proofs.Placed.{result_set, copied, made_small}
 use Rattle.emit_simulation.proofs.Context.{all_at, mapped_at}
 use Rattle.emit_simulation.proofs.Meanings.{small}

@@ -40,7 +40,7 @@ use Rattle.emit_simulation.proofs.Laid.{over, Comes, OfInstr, store_of}
 use Rattle.emit_simulation.specs.Starts.{start}
 use Rattle.emit_simulation.specs.Ties.{IsAt, IsShared, IsImage, IsText, IsCode, Means, spots, place_in, return_to, frames_of}
 use Rattle.emit_simulation.proofs.AtOps.{view_in, bank_in}
-use Rattle.emit_simulation.proofs.Makes.{MakesOp}
+use Rattle.emit_simulation.proofs.OwedOps.{MakesOp}
 use Rattle.emit_simulation.proofs.Flowing.{flows, each_goes}
 use Rattle.emit_simulation.proofs.Starts.{first_of}
 use Rattle.emit_simulation.proofs.Placed.{store_low}

@@ -29,7 +29,7 @@ use Rattle.placed_frames.proofs.Laws.{View, registers_of, bank_of, At, sp_has, s
 use Rattle.emit_simulation.proofs.Laid.{Fm, over, Laid, Comes}
 use Rattle.emit_simulation.specs.Ties.{IsTied, IsShared, ties}
 use Rattle.emit_simulation.proofs.AtOps.{view_in, bank_in, fiber_seen, shared_seen}
-use Rattle.emit_simulation.proofs.Makes.{Makes}
+use Rattle.emit_simulation.proofs.OwedOps.{Makes}
 use Rattle.emit_simulation.proofs.Paths.{path}
 
 -- the last of some steps

@@ -25,7 +25,7 @@ use Rattle.placed_frames.specs.Frames.{AreWords}
 use Rattle.emit_simulation.proofs.Laid.{over}
 use Rattle.emit_simulation.specs.Ties.{IsTied, AtEntry, AtOp, IsShared, IsImage, spots, ties, pending, stack_end}
 use Rattle.emit_simulation.proofs.AtOps.{view_in}
-use Rattle.emit_simulation.proofs.Makes.{MakesOp}
+use Rattle.emit_simulation.proofs.OwedOps.{MakesOp}
 use Rattle.emit_simulation.specs.Weights.{weight_at, weight_of}
 use Rattle.emit_simulation.proofs.Context.{function_at}
 use Rattle.emit_simulation.proofs.Meanings.{function_inside, placed_inside, entry_is}

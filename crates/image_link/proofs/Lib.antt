@@ -9,7 +9,7 @@ pub mod NamedTexts
 pub mod Alike
 pub mod Showing
 pub mod Sections
-pub mod Linked
+pub mod LinkedBytes
 pub mod Flashing
 pub mod EachByte
 pub mod Programs

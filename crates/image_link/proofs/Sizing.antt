@@ -23,7 +23,7 @@ use Rattle.image_link.specs.Image.{is_this_text, is_named, IsLinked}
 use Rattle.image_link.specs.Linkable.{one_text, texts_among, used_bytes, KeepWeights, all_weights, IsLimited}
 use Rattle.image_link.proofs.Whole.{image_long}
 use Rattle.image_link.proofs.Alike.{alike_long}
-use Rattle.image_link.proofs.Linked.{linked}
+use Rattle.image_link.proofs.LinkedBytes.{linked}
 use Rattle.image_link.proofs.Showing.{all_fixed}
 use Rattle.image_link.proofs.Flashing.{IsCallable, AllCallable, laid_callable}
 

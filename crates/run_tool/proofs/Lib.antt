@@ -7,7 +7,7 @@ mod ProgramRuns
 mod Statuses
 mod ProgramStatuses
 mod Headlines
-mod Complete
+mod CompleteCalls
 mod Readings
 mod RunsAt
 mod ToldAt

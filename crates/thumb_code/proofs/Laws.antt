@@ -16,7 +16,7 @@ use Rattle.thumb_code.specs.Step.{Found, fetched, behind, is_in_flash}
 use Rattle.thumb_code.proofs.Spelled.{one_or_two, starts_long, starts_short, narrow_only, wide_only}
 pub use Rattle.thumb_code.proofs.Asking.{asks_only, step_asks_only}
 pub use Rattle.thumb_code.proofs.Refine.{refined}
-pub use Rattle.thumb_code.proofs.Refines.{over, Refines}
+pub use Rattle.thumb_code.proofs.TakenWords.{over, Refines}
 pub use Rattle.thumb_code.proofs.Runs.{aligned_sp, runs_follow}
 pub use Rattle.thumb_code.proofs.Stores.{store_keeps_base}
 

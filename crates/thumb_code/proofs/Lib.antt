@@ -1,6 +1,6 @@
 pub mod Laws
 mod Asking
-mod Refines
+mod TakenWords
 mod Refine
 mod Runs
 mod Spelled

@@ -5,7 +5,7 @@ use Rattle.thumb_code.specs.Effect.{Outcome, Goes, Asks, Stops, Access, Effect}
 use Rattle.std.specs.Option.{option_or}
 use Rattle.thumb_code.specs.Memory.{Memory, Executed, Done, Asked, Stopped, first_fault, load_all, store_all, finished, accessed, execute, after_move, execute_moving}
 use Rattle.thumb_code.specs.Run.{DoesTheSame}
-use Rattle.thumb_code.proofs.Refines.{Refines}
+use Rattle.thumb_code.proofs.TakenWords.{Refines}
 
 both_none : (o p : Option ℕ) → option_or o p ≡ None → (o ≡ None) × (p ≡ None)
 both_none (Some k) p h = cc

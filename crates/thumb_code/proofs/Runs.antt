@@ -8,7 +8,7 @@ use Rattle.thumb_code.specs.Effect.{Effect, effect}
 use Rattle.thumb_code.specs.Memory.{Memory, Executed, Done, Asked, Stopped, execute, execute_moving}
 use Rattle.thumb_code.specs.Step.{Fetched, Found, Missed, ran, stepped_at}
 use Rattle.thumb_code.specs.Run.{Ran, Still, AskedAfter, Broke, runs, from_step, DoesTheSame, RunsTheSame, over_moving}
-use Rattle.thumb_code.proofs.Refines.{over, Refines}
+use Rattle.thumb_code.proofs.TakenWords.{over, Refines}
 use Rattle.thumb_code.proofs.Refine.{refined}
 
 cond_sp : (b : Bool) (x y : Effect) → x.sp % 4 ≡ 0 → y.sp % 4 ≡ 0 → (cond b x y).sp % 4 ≡ 0

@@ -10,7 +10,7 @@ use Rattle.image_link.specs.Image.{head, class_table, text_bytes, is_named, IsLi
 use Rattle.image_link.specs.inner.{padded, ArePlaced, filled}
 use Rattle.image_link.proofs.Written.{with_parts, end_behind, code_lengths, class_lengths, text_lengths, code_end, routine_end, class_end, code_parts, class_parts, text_parts, written_bytes}
 use Rattle.image_link.proofs.Whole.{past_code, past_routine, past_classes, are_placed, code_low, codes_short, texts_short, all_found, parts_put, named_put, written, image_long}
-use Rattle.image_link.proofs.Linked.{linked, too_long}
+use Rattle.image_link.proofs.LinkedBytes.{linked, too_long}
 use Rattle.image_link.proofs.linker.link.Goals as goal
 
 pub returns-in_err-function_starts-clause-past_flash : goal.returns-in_err-function_starts-clause-past_flash

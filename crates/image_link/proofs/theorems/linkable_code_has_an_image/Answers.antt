@@ -1,5 +1,5 @@
 use Rattle.image_link.proofs.Written.{written_bytes}
-use Rattle.image_link.proofs.Linked.{linked}
+use Rattle.image_link.proofs.LinkedBytes.{linked}
 use Rattle.image_link.proofs.theorems.linkable_code_has_an_image.Goals as goal
 
 pub returns : goal.returns

@@ -1,6 +1,6 @@
 use Rattle.run_tool.proofs.Completing.{completes, refused, script-refused, image-refused, faulted, folder-failed, sink-failed}
 use Rattle.run_tool.proofs.Headlines.{headline}
-use Rattle.run_tool.proofs.Complete.{complete}
+use Rattle.run_tool.proofs.CompleteCalls.{complete}
 use Rattle.run_tool.proofs.ToldAt.{headline-at}
 use Rattle.run_tool.proofs.ToldClass.{headline-class}
 use Rattle.std.proofs.Common.{◌≡◌, ◌∙◌, ap, refl, map}
