@@ -12,11 +12,15 @@ import sys
 
 HEAD = """# The crates
 
-Each crate of the repository, in the order of `crates.txt`. This page is made of `crates.txt` and of the last lines of each crate's README by `checks/crates.sh --write`; the READMEs have more.
+Each crate of the repository, in the order of `crates.txt`. This page is made of `crates.txt` and of the last lines of
+each crate's README by `checks/crates.sh --write`; the READMEs have more.
 
-A crate is one layer. Its `specs/` hold the definitions that contracts cite, to be read first; its `src/` the code, each public function with its contract; its `proofs/` the rest. What a contract doesn't
-say isn't claimed. A definition that several crates cite stands in the lowest of them. What is meant to be cited is in `specs/`, on a public function, or in `proofs/Laws.antt`; nothing above names a crate's
-other words. The number is the length of the longest chain of crates up to there; no chain is longer than eight. Of the crates below that a crate stands on, those are named that no other of them stands on.
+A crate is one layer. Its `specs/` hold the definitions that contracts cite, to be read first; its `src/` the code, each
+public function with its contract; its `proofs/` the rest. What a contract doesn't say isn't claimed. A definition that
+several crates cite stands in the lowest of them. What is meant to be cited is in `specs/`, on a public function, or in
+`proofs/Laws.antt`; nothing above names a crate's other words. The number is the length of the longest chain of crates
+up to there; no chain is longer than eight. Of the crates below that a crate stands on, those are named that no other of
+them stands on.
 
 ## What they are
 
@@ -48,7 +52,8 @@ def depth(crate):
 def row(crate):
     """Returns what the crate's README says of it for the tables, by the names of WANTED."""
     text = open(f"crates/{crate}/README.md", encoding="utf-8").read()
-    said = dict(re.findall(r"^- ([^:\n]+):(?: (.*))?$", text.partition("\n## In the table\n")[2], re.M))
+    entries = re.findall(r"^- ([^:\n]+):((?:.*\n?)(?:  .*\n?)*)", text.partition("\n## In the table\n")[2], re.M)
+    said = {name: " ".join(words.split()) for name, words in entries}
     wrong.extend(f"crates/{crate}/README.md: '{it}' isn't told below 'In the table'" for it in WANTED[:1] if not said.get(it))
     wrong.extend(f"crates/{crate}/README.md: '{it}' below 'In the table' is no column" for it in said if it not in WANTED)
     return [said.get(it, "").replace("|", "\\|") for it in WANTED]
