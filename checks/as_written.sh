@@ -1,6 +1,6 @@
 #!/bin/sh
 # What the documents show is run as it is written there: each line of README.md and docs/*.md that begins with `bin/sts`, `bin/view` or `bin/show`, alone or behind `$`, writes the lines below it, or else the
-# next block; each `sts ..` of the README's table of words is taken, with a file in place of P, S, A, C and H and a number in place of N; each example of a refusal in docs/LANGUAGE.md is
+# next block; each `sts ..` of the tables of words in README.md and docs/COMMANDS.md is taken, with a file in place of P, S, A, C and H and a number in place of N; each example of a refusal in docs/LANGUAGE.md is
 # refused by its code at its place; and each of those that TypeScript refuses there (TS and a number) is accepted. A line behind `$ ` may also begin with `cat`, to show a file of examples/, or with `echo`, to give
 # text to the program. PROGRAM is sts and VIEW view, as bin/program names them where they are left out.
 # usage: checks/as_written.sh [PROGRAM [VIEW]]
@@ -65,11 +65,13 @@ for document in [f"{top}/README.md", *sorted(glob.glob(f"{top}/docs/*.md"))]:
             # (a document can't show the CR of a line's end)
             expect(("commands", line), call(line)[1].replace("\r\n", "\n"), "".join(f"{it}\n" for it in due))
 
-with open(f"{top}/README.md", encoding="utf-8") as file:
-    readme = file.read()
+tables = ""
+for document in (f"{top}/README.md", f"{top}/docs/COMMANDS.md"):
+    with open(document, encoding="utf-8") as file:
+        tables += file.read()
 given = {"P": "examples/counter.ts", "S": "examples/counter.json", "H": "counter.hex", "A": "examples/arrivals/polling.arrivals.json", "C": "examples/class/ping_pong.class.json", "N": "5"}
 call("bin/sts build examples/counter.ts > counter.hex")
-for row in re.findall(r"(?m)^\| (`sts .*?) \|", readme):
+for row in re.findall(r"(?m)^\| (`sts .*?) \|", tables):
     for form in re.findall(r"`(sts [^`]*)`", row):
         line = "bin/" + " ".join(given.get(word, word) for word in form.split(" "))
         expect(("forms", line), call(line)[0], 0)
