@@ -60,6 +60,8 @@ for document in [f"{top}/README.md", *sorted(glob.glob(f"{top}/docs/*.md"))]:
         begins = [at for at, line in enumerate(block) if re.match(r"(\$ )?bin/(sts|view|show)\b|\$ (cat|echo) ", line)]
         for at, end in zip(begins, [*begins[1:], len(block)]):
             line, due = block[at].removeprefix("$ "), block[at + 1 : end]
+            while line.endswith("\\") and due:  # a command goes on in the next line, as in a shell
+                line = line[:-1] + due.pop(0).strip()
             if not due and not block[at].startswith("$ ") and number + 1 < len(blocks):
                 due = blocks[number + 1]
             # (a document can't show the CR of a line's end)

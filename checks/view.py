@@ -81,11 +81,12 @@ def sentences():
 
 
 def closings():
-    """What is said of a closing line, and where nothing is run: each part of the sentence stands in the row of docs/TEACHERS.md that begins with the line."""
-    rows = {row[0]: " ".join(row[1:]) for row in table("TEACHERS.md", "## The closing line") + table("TEACHERS.md", "## When nothing is run")}
+    """What is said of a closing line, and where nothing is run: each part of the sentence stands in the entry of docs/TEACHERS.md that begins with the line."""
+    text = open(f"{TOP}/docs/TEACHERS.md", encoding="utf-8").read()
+    rows = {line: " ".join(rest.split()) for line, rest in re.findall(r"(?m)^- (`[^`]*`), status \d+((?:.*\n)(?:  .*\n)*)", text)}
     rows |= {f"`panic T {row[0]}`": row[1] for row in table("TEACHERS.md", "## Panic codes")}
     wanted = {"end 5 quiet": "`end T quiet`", "end 5 script": "`end T script`", "budget 5": "`budget T`", "fault 5 1 0000000c": "`fault T K A`", "panic 5 7": "`panic T another`", "usage": "`usage`"}
-    wanted |= dict.fromkeys(["missing", "too long", "folder failed"], "`missing`; `too long`; `folder failed`")
+    wanted |= {it: f"`{it}`" for it in ("missing", "too long", "folder failed")}
     for line, row in wanted.items():
         said = view([], f"{line}\n".encode())[1].decode().partition("\t")[2].rstrip("\n")
         expect(f"what is said of {line}, by its parts", (True, []), (bool(said), [part for part in re.split(": |; ", said) if part.lower() not in rows[row].lower()]))
