@@ -7,7 +7,6 @@ import sys
 TOP = os.path.dirname(os.path.dirname(os.path.abspath(__file__)))
 PARTS = ("src", "specs", "proofs")
 MEMORY_OF_A_CHECK = 3_000_000  # kilobytes
-OF_AN_EDIT = 15  # seconds, beside one check of its crate
 
 
 def kit():

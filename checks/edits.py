@@ -1,15 +1,28 @@
-"""Tries the edits of crates/NAME/edits/ and prints each that the prover doesn't refuse.
+"""Tries the edits of crates: the mistakes of crates/NAME/edits.txt, each of which the prover must refuse.
 
-    checks/edits.sh [NAME..]
+    checks/edits.sh [--note] [NAME..]      all edits of the crates named, or of all crates
+    checks/edits.sh [--note] --by HASH     those of two crates, which the commit HASH picks
+    checks/edits.sh --fit [NAME..]         nothing is proved: whether each edit can be applied
+    checks/edits.sh --when                 when the edits of each crate were last refused
 
-An edit has lines 'file: PATH', 'old: TEXT' and 'new: TEXT', each old TEXT once in its file. Several edits are tried in one check where they stand in
-functions of different names, one at most in each cycle of calls, of which the prover may fault any function. An edit is refused where a function of its
-name has no proof for a cause of its own. Where the cause is a call of another function without a proof, the edit waits for a later round; where its
-function is proved, or where it stands in no function, it is tried alone, and is refused where the crate isn't proved. The last line is 'N refused, M not'.
+A row of edits.txt is a line with the edit's name in brackets, then lines 'file: PATH', 'old: TEXT' and 'new: TEXT', each old TEXT once in its file; a
+further old and new may follow, and a further file. Rows stand apart by an empty line. A line that begins with # is a comment.
+
+Several edits are tried in one check where they stand in functions of different names, one at most in each cycle of calls, of which the prover may fault
+any function. An edit is refused where a function of its name has no proof for a cause of its own. Where the cause is a call of another function without a
+proof, the edit waits for a later round; where its function is proved, or where it stands in no function, it is tried alone, and is refused where the crate
+isn't proved. The last line is 'N refused, M not'.
+
+--by takes the crates in pairs, the dearest to prove with the cheapest; each commit is as likely to pick one pair as another. type_check and typed_trees, whose
+cycles of calls take long, are tried by hand alone. --note writes down, in checks/edits_refused.txt, each crate of which all edits were refused: how
+many, the day, and the checksum of the crate, by which --when knows whether it changed since.
 """
+import argparse
 import collections
 import concurrent.futures
+import datetime
 import glob
+import hashlib
 import os
 import re
 import shutil
@@ -19,9 +32,19 @@ import tempfile
 import threading
 
 TOP = os.path.dirname(os.path.dirname(os.path.abspath(__file__)))
+sys.path.insert(0, f"{TOP}/bin")
+import weights  # noqa: E402 (it stands in bin/)
+
+REFUSED = f"{TOP}/checks/edits_refused.txt"
+BY_HAND = ("type_check", "typed_trees")
 AT_ONCE = 16
+Row = collections.namedtuple("Row", "name pairs")
 Edit = collections.namedtuple("Edit", "name pairs function cycle")
 printing = threading.Lock()
+
+
+class Wrong(Exception):
+    """What is wrong with an edits.txt, in a line."""
 
 
 def say(text):
@@ -52,18 +75,69 @@ def below(name, all_):
     return found
 
 
-def read(path):
-    """Gives the edit's triples of file, old text and new text."""
-    file, old, pairs = None, None, []
-    with open(path, encoding="utf-8") as lines:
-        for line in lines.read().split("\n"):
-            if line.startswith("file: "):
-                file = line[6:].strip()
-            elif line.startswith("old: "):
-                old = line[5:]
-            elif line.startswith("new:"):
-                pairs.append((file, old, line[4:].removeprefix(" ")))
-    return pairs
+def has_edits(name):
+    return os.path.exists(f"{TOP}/crates/{name}/edits.txt")
+
+
+def rows(name):
+    """Gives the edits of a crate, each with its triples of file, old text and new text."""
+    found, file, old = [], None, None
+    with open(f"{TOP}/crates/{name}/edits.txt", encoding="utf-8", newline="") as it:
+        lines = it.read().split("\n")
+    for number, line in enumerate(lines, 1):
+        word, _, text = line.partition(": ") if ": " in line else (line.rstrip(":"), "", "")
+        if head := re.fullmatch(r"\[(\w+)\]", line):
+            found.append(Row(head[1], []))
+            file = old = None
+        elif word == "file" and found and old is None:
+            file = text.strip()
+        elif word == "old" and file and old is None and text:
+            old = text
+        elif word == "new" and old is not None and text != old:
+            found[-1].pairs.append((file, old, text))
+            old = None
+        elif line.strip() and not line.startswith("#"):
+            raise Wrong(f"crates/{name}/edits.txt:{number}: no line is due here that begins so")
+    empty = [row.name for row in found if not row.pairs] + [found[-1].name] * (old is not None)
+    twice = [it for it, count in collections.Counter(row.name for row in found).items() if count > 1]
+    if not found or empty or twice:
+        raise Wrong(f"crates/{name}/edits.txt: {'no new text in ' + empty[0] if empty else 'twice there: ' + twice[0] if twice else 'it has no edit'}")
+    return found
+
+
+def misfit(folder, pairs):
+    """Gives why the pairs of an edit can't be applied to the crate in the folder, or None."""
+    texts = {}
+    for file, old, new in pairs:
+        path = os.path.normpath(f"{folder}/{file}")
+        if not path.startswith(tuple(f"{folder}/{part}/" for part in weights.PARTS)) or not os.path.isfile(path):
+            return f"{file} is no file of the crate's {', '.join(weights.PARTS)}"
+        if path not in texts:
+            with open(path, encoding="utf-8") as it:
+                texts[path] = it.read()
+        if (count := texts[path].count(old)) != 1:
+            return f"its old text is in {file} {count} times: {old.strip()}"
+        texts[path] = texts[path].replace(old, new)
+    return None
+
+
+def fit(names):
+    """Says which edits of the crates can't be applied. Gives whether all can."""
+    count, wrong = 0, []
+    for name in names:
+        try:
+            found = rows(name)
+        except Wrong as why:
+            wrong.append(str(why))
+            continue
+        count += len(found)
+        for row in found:
+            if why := misfit(f"{TOP}/crates/{name}", row.pairs):
+                wrong.append(f"crates/{name}/edits.txt: {row.name}: {why}")
+    for it in wrong:
+        print(it)
+    print(f"edits: {count} in {len(names)} crates, {len(wrong)} wrong")
+    return not wrong and count > 0
 
 
 def function_of(folder, pairs):
@@ -162,8 +236,10 @@ def verdicts(name, folder, edits):
 
 def tried(name, all_, lines):
     """Tries a crate's edits on a copy of it and of what stands below it. Gives how many there are, and those not refused."""
-    folder = f"{TOP}/crates/{name}"
-    files = sorted(it for it in os.listdir(f"{folder}/edits") if it.endswith(".edit"))
+    try:
+        found = rows(name)
+    except Wrong as why:
+        return 0, [str(why)]
     with tempfile.TemporaryDirectory(prefix="edits-") as room:
         os.mkdir(f"{room}/crates")
         shutil.copy(f"{TOP}/HANDLES", room)
@@ -174,30 +250,99 @@ def tried(name, all_, lines):
             subprocess.run(["cp", "-a", f"{TOP}/crates/{crate}", f"{room}/crates/"], check=True)
         copy = f"{room}/crates/{name}"
         if check(copy)[0] is not True:
-            return len(files), [f"{name}: the crate itself is not proved"]
+            return len(found), [f"{name}: the crate itself is not proved"]
         edits, around = [], cycles(copy)
-        for file in files:
-            pairs = read(f"{folder}/edits/{file}")
-            function = function_of(copy, pairs)
-            edits.append(Edit(f"{name}/{file}", pairs, function, around.get(function)))
+        for row in found:
+            function = None if misfit(copy, row.pairs) else function_of(copy, row.pairs)
+            edits.append(Edit(f"{name}/{row.name}", row.pairs, function, around.get(function)))
         wrong = verdicts(name, copy, edits)
-    say(f"{name}: {len(files) - len(wrong)} of {len(files)} refused")
-    return len(files), wrong
+    say(f"{name}: {len(found) - len(wrong)} of {len(found)} refused")
+    return len(found), wrong
 
 
-def main(names):
+def picked(hash_, all_):
+    """Gives the crates that a commit picks, a pair, and how many pairs there are."""
+    known = weights.seconds_known()
+    by_weight = sorted((it for it in all_ if has_edits(it) and it not in BY_HAND), key=lambda it: (weights.weight(it, known), it))
+    pairs = (len(by_weight) + 1) // 2
+    at = int(hash_, 16) % pairs
+    return sorted({by_weight[at], by_weight[-1 - at]}), pairs
+
+
+def sum_of(name):
+    """Gives a checksum of the crate's sources and of its edits."""
+    found = hashlib.sha256()
+    for path in [*weights.files_of(name), f"{TOP}/crates/{name}/edits.txt"]:
+        with open(path, "rb") as it:
+            found.update(f"{os.path.relpath(path, TOP)}\n".encode() + hashlib.sha256(it.read()).digest())
+    return found.hexdigest()[:16]
+
+
+def noted():
+    """Gives for each crate of edits_refused.txt how many of its edits were refused, on which day, and the crate's checksum then."""
+    if not os.path.exists(REFUSED):
+        return {}
+    with open(REFUSED, encoding="utf-8") as it:
+        return {words[0]: tuple(words[1:]) for words in map(str.split, it) if words and words[0] != "#"}
+
+
+def note(refused):
+    """Notes the crates of which all edits were refused, with how many and the sum from before they were tried."""
+    day = datetime.datetime.now(datetime.timezone.utc).date().isoformat()
+    found = noted() | {name: (str(count), day, sum_) for name, (count, sum_) in refused.items()}
+    with open(f"{REFUSED}.new", "w", encoding="utf-8") as it:
+        it.write("# Crates of which all edits were refused: how many, the day, the checksum of the crate. Written by `checks/edits.sh --note`.\n")
+        it.writelines(f"{name} {' '.join(found[name])}\n" for name in sorted(found))
+    os.replace(f"{REFUSED}.new", REFUSED)
+
+
+def when(name, known):
+    if name not in known:
+        return "not noted"
+    count, day, sum_ = known[name]
+    return f"{count} refused on {day}{'' if sum_ == sum_of(name) else ', and changed since'}"
+
+
+def tries(names, noting):
+    """Tries the edits of crates, as many crates at once as there are processors. Gives whether all were refused."""
     all_, lines = crates()
-    asked = [it for it in all_ if (it in names or not names) and os.path.isdir(f"{TOP}/crates/{it}/edits")]
-    unknown = [it for it in names if it not in all_]
-    lanes = max(1, min(len(asked), (os.cpu_count() or 1)))
-    count, wrong = 0, [f"{it}: no such crate" for it in unknown]
-    with concurrent.futures.ThreadPoolExecutor(lanes) as pool:
-        for tries, bad in pool.map(lambda it: tried(it, all_, lines), asked):
-            count, wrong = count + tries, wrong + bad
+    sums = {name: sum_of(name) for name in names}
+    count, wrong, refused = 0, [], {}
+    with concurrent.futures.ThreadPoolExecutor(max(1, min(len(names), weights.at_once()))) as pool:
+        for name, (many, bad) in zip(names, pool.map(lambda it: tried(it, all_, lines), names)):
+            count, wrong = count + many, wrong + bad
+            if not bad:
+                refused[name] = many, sums[name]
     for it in wrong:
         say(f"NOT REFUSED: {it}")
+    if noting:
+        note(refused)
     print(f"{count - len(wrong)} refused, {len(wrong)} not")
-    return 1 if wrong else 0
+    return not wrong and count > 0
+
+
+def main(words):
+    reads = argparse.ArgumentParser(prog="checks/edits.sh", usage=__doc__.partition("\n\n")[2].partition("\n\n")[0])
+    reads.add_argument("names", nargs="*")
+    reads.add_argument("--by", type=lambda it: re.fullmatch(r"[0-9a-f]{7,64}", it)[0])
+    for it in ("--fit", "--when", "--note"):
+        reads.add_argument(it, action="store_true")
+    asked = reads.parse_args(words)
+    all_, _ = crates()
+    for it in asked.names:
+        if it not in all_ or not has_edits(it):
+            sys.exit(f"checks/edits.sh: {it} is no crate with edits")
+    names = [it for it in all_ if has_edits(it) and (it in asked.names or not asked.names)]
+    if asked.fit:
+        return 0 if fit(names) else 1
+    known = noted()
+    if asked.when:
+        print("\n".join(f"{name}: {when(name, known)}" for name in names))
+        return 0
+    if asked.by:
+        names, pairs = picked(asked.by, all_)
+        print(f"the commit {asked.by[:12]} picks one of {pairs} pairs of crates: {'; '.join(f'{it} ({when(it, known)})' for it in names)}", flush=True)
+    return 0 if tries(names, asked.note) else 1
 
 
 if __name__ == "__main__":
