@@ -76,8 +76,9 @@ for code in [0, 16, 4294967295]:
 # Each call of docs/CALLS.md has its rows, and each member that isn't here, with what stands in its place, is told as such.
 with open(f"{top}/docs/CALLS.md", encoding="utf-8") as file:
     calls_here, not_here = file.read().split("## Not here, instead")
-calls = re.findall(r"(?m)^\| `(\w+\.\w+)\(", calls_here)
-members = [name for line in not_here.splitlines() for name in re.findall(r"`(\w+\.\w+)`", line.split(" | ")[0]) if not name[0].isdigit()]
+calls = re.findall(r"(?m)^- `(\w+\.\w+)\(", calls_here)
+entries = [line.partition(": ")[0] for line in not_here.splitlines() if line.startswith("- ")]
+members = [name for entry in entries for name in re.findall(r"`(\w+\.\w+)`", entry) if not name[0].isdigit()]
 asked = [("11 1 1", f"{call}(") for call in calls] + [("8 1 1", f"{call}(") for call in calls] + [("8 1 1", f"{call.split('.')[1]}(") for call in calls] + [("8 1 1", name) for name in members]
 begins = [f"`{call}` takes " for call in calls] + [f"The call is `{call}`, " for call in calls] + [f"`{call.split('.')[1]}` is one of `{call.split('.')[0]}`" for call in calls] + [""] * len(members)
 for (place, text), begin, (sentence, _, _) in zip(asked, begins, explained([(place, text.encode()) for place, text in asked])):
