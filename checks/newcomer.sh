@@ -1,8 +1,8 @@
 #!/bin/sh
-# What somebody meets who has just cloned the repository: the first command of README.md, in a clone of the last commit, writes what README says, and says how many seconds it took;
-# called again it takes the program that it compiled, another executable under that name is not taken, and two first calls side by side both answer. And folders as an interrupted
-# bin/prove or bin/compile leaves them have `rt ci` refuse nothing: it takes the tree, cut down to one small crate, so that its look at all files is tried without proving the rest;
-# where a source lies among what is built it would refuse it.
+# What somebody meets who has just cloned the repository: the first command of README.md, in a clone of the last commit, writes what README says, and says how many seconds it took, and
+# that nothing was proved, once that day; called again it takes the program that it made, another executable under that name is not taken, and two first calls side by side both answer.
+# A call ended by a signal leaves nothing behind. And folders as an interrupted bin/prove or bin/compile leaves them have `rt ci` refuse nothing: it takes the tree, cut down to one
+# small crate, so that its look at all files is tried without proving the rest; where a source lies among what is built it would refuse it.
 # usage: checks/newcomer.sh
 set -eu
 top=$(cd "$(dirname "$0")/.." && pwd)
@@ -33,25 +33,45 @@ answers() {
     said=$($command 2>"$folder/errors") || status=$?
     judge "$1, status" "$status" 0
     judge "$1" "$said" "$due"
-    judge "$1, that nothing is proved" "$(grep -c 'their proofs have not been checked on this machine' "$folder/errors")" 1
 }
+says() { grep -c "$1" "$2" || true; }
+not_proved='their proofs have not been checked on this machine'
 began=$(date +%s)
-$command >"$folder/beside" 2>/dev/null &
+$command >"$folder/beside" 2>"$folder/beside.errors" &
 answers 'the first answer'
 echo "newcomer: the first answer came after $(($(date +%s) - began)) s on $(nproc) processors"
 wait || wrong=$((wrong + 1))
 judge 'the answer to a call beside it' "$(cat "$folder/beside")" "$due"
+cat "$folder/errors" "$folder/beside.errors" >"$folder/both"
+judge 'that nothing is proved, in two first answers' "$(says "$not_proved" "$folder/both")" 1
+judge 'the programs that were linked' "$(says 'linking sts' "$folder/both")" 1
 began=$(date +%s%N)
 answers 'a later answer'
 echo "newcomer: a later answer came after $((($(date +%s%N) - began) / 1000000)) ms"
+judge 'that nothing is proved, in a later answer' "$(says "$not_proved" "$folder/errors")" 0
+echo 2000-01-01 >out/compiled/told.sts
+STS_QUIET=1 answers 'an answer on another day, quiet'
+judge 'that nothing is proved, where it is to be quiet' "$(says "$not_proved" "$folder/errors")" 0
+answers 'an answer on another day'
+judge 'that nothing is proved, on another day' "$(says "$not_proved" "$folder/errors")" 1
 judge 'executables kept' "$(find out/compiled -name 'sts.*' | wc -l)" 1
 kept=$(find out/compiled -name 'sts.*')
 cp /bin/true "$kept"
-if bin/compile >/dev/null 2>"$folder/errors" & child=$!; then sleep 2; fi
-judge 'another executable under its name' "$(grep -c 'compiling sts' "$folder/errors")" 1
-kill "$child" 2>/dev/null || true
-wait "$child" 2>/dev/null || true
-judge 'what an interrupted bin/compile leaves' "$(find "$folder" -maxdepth 1 -name 'sts-compile.*' | wc -l)" 0
+# ended WORDS..: a call that is ended while it works. (What it started has the name of its temporary folder among its words.)
+ended() {
+    "$@" >/dev/null 2>"$folder/errors" &
+    child=$!
+    sleep 3
+    at=$(find "$folder" -maxdepth 1 -name 'sts-compile.*')
+    kill "$child" && wait "$child" 2>/dev/null && status=0 || status=$?
+    judge "the status of $*, ended" "$status" 143
+    judge "what $*, ended, leaves" "$(find "$folder" -maxdepth 1 -name 'sts-compile.*' | wc -l)" 0
+    judge "what $* had started" "$(pgrep -f "${at:-sts-compile}" | wc -l)" 0
+}
+ended $command
+judge 'another executable under its name' "$(says 'linking sts' "$folder/errors")" 1
+STS_ANEW=1 ended $command
+judge 'a program compiled anew' "$(says 'compiling sts' "$folder/errors")" 1
 
 # bin/prove, interrupted in its first crate and as if behind it.
 bin/prove >/dev/null 2>&1 &
