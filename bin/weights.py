@@ -1,4 +1,5 @@
 """What bin/prove and bin/gate know of the crates: who uses whom, how long each takes, and how many are proved at once."""
+import collections
 import os
 import re
 import shutil
@@ -6,6 +7,12 @@ import sys
 
 TOP = os.path.dirname(os.path.dirname(os.path.abspath(__file__)))
 PARTS = ("src", "specs", "proofs")
+MEASURED = f"{TOP}/docs/gate.txt"
+HEAD = """\
+# What the gate took, by crate: the seconds of one processor, the GB that one of its processes held at most, and the lines of code, definitions and proofs
+# and the edits that the crate had then. bin/gate writes it where the gate passes; its clock and the table in docs/GATE.md are made of it (checks/gate.sh).
+"""
+Measured = collections.namedtuple("Measured", "seconds gb code definitions proofs edits")
 MEMORY_OF_A_CHECK = 3_000_000  # kilobytes
 
 
@@ -37,19 +44,50 @@ def files_of(name, parts=PARTS):
             yield from (f"{at}/{file}" for file in sorted(files))
 
 
-def seconds_known():
-    """Gives the seconds of a processor that docs/GATE.md has for crates, in the column Seconds of the table whose first column is Crate."""
-    known, column = {}, None
+def measured():
+    """Gives what docs/gate.txt says of the whole gate, by name, and of each crate."""
+    whole, known = {}, {}
     try:
-        with open(f"{TOP}/docs/GATE.md", encoding="utf-8") as it:
-            for row in (re.split(r"\s*\|\s*", line) for line in it):
-                if len(row) > 1 and not row[1].startswith(("`", "---")):
-                    column = row.index("Seconds") if row[1] == "Crate" and "Seconds" in row else None
-                elif column and len(row) > column and re.fullmatch(r"\d+", row[column]):
-                    known[row[1].strip("`")] = max(1.0, float(row[column]))
+        with open(MEASURED, encoding="utf-8") as it:
+            for words in map(str.split, it):
+                if words and words[0] == "whole":
+                    whole = dict(word.split("=") for word in words[1:])
+                elif words and words[0] != "#":
+                    known[words[0]] = Measured(int(words[1]), float(words[2]), *map(int, words[3:]))
     except OSError:
-        return {}
-    return known
+        return {}, {}
+    return whole, known
+
+
+def note_measured(whole, known):
+    """Writes docs/gate.txt anew, its crates in the order of crates.txt."""
+    with open(f"{MEASURED}.new", "w", encoding="utf-8") as it:
+        it.write(HEAD)
+        it.write(f"whole {' '.join(f'{name}={value}' for name, value in whole.items())}\n")
+        for name in filter(known.get, crates()[0]):
+            it.write(f"{name} {known[name].seconds} {known[name].gb:.1f} {' '.join(map(str, known[name][2:]))}\n")
+    os.replace(f"{MEASURED}.new", MEASURED)
+
+
+def seconds_known():
+    """Gives the seconds of a processor that docs/gate.txt has for crates."""
+    return {name: max(1.0, it.seconds) for name, it in measured()[1].items()}
+
+
+def lines_of(name):
+    """Gives how many lines of code, of definitions and of proofs a crate has, and how many edits."""
+    counts = []
+    for part in PARTS:
+        count = 0
+        for file in files_of(name, [part]):
+            with open(file, "rb") as it:
+                count += it.read().count(b"\n")
+        counts.append(count)
+    edits = 0
+    if os.path.exists(f"{TOP}/crates/{name}/edits.txt"):
+        with open(f"{TOP}/crates/{name}/edits.txt", encoding="utf-8") as it:
+            edits = sum(line.startswith("[") for line in it)
+    return *counts, edits
 
 
 def weight(name, known):
