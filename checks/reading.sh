@@ -1,6 +1,6 @@
 #!/bin/sh
 # docs/READING.md is true of the tree: the definitions that the clauses `headline` and `ends` of sts_main cite, and what these cite in turn, stand in the files of its
-# tables, and in no others, in so many lines as the tables say, give or take a tenth and two lines; so do the types of code that they cite. The parts of its
+# lists, and in no others, in so many lines as the lists say, give or take a tenth and two lines; so do the types of code that they cite. The parts of its
 # way of two hours have at most 2,500 lines. Lines are those of the definitions with their comments, without imports, empty lines and lines that name what a module takes.
 # usage: checks/reading.sh                looks whether the document is true
 #        checks/reading.sh FILE..         names what is to be read of these files of definitions, in their order
@@ -57,10 +57,11 @@ def compare(what, number, wanted):
 
 
 part = None
-for line in document.split("\n"):
+# (an entry goes on in lines that are moved in by two)
+for line in re.sub(r"\n  (?=\S)", " ", document).split("\n"):
     if line.startswith("#"):
         part = line.lstrip("# ")
-    elif found := re.match(r"\| `(crates/\w+/specs/\w+\.antt)` \| (\d+) \|", line):
+    elif found := re.match(r"- `(crates/\w+/specs/\w+\.antt)`, (\d+) lines: (.*)", line):
         path, number = found.group(1), int(found.group(2))
         told.add(path)
         if path not in lengths:
@@ -68,8 +69,8 @@ for line in document.split("\n"):
             continue
         sums[part] = sums.get(part, 0) + lengths[path]
         compare(path, number, lengths[path])
-        # (names that the row tells stand among those to be read)
-        for name in re.findall(r"`([A-Za-z_]\w*)`", line.split("|", 3)[3]):
+        # (names that the entry tells stand among those to be read)
+        for name in re.findall(r"`([A-Za-z_]\w*)`", found.group(3)):
             if not any(name in (it[2], *it[2].split("◌")) for it in files[path]) and not any(at[:2] == files[path][0][:2] and at[2] == name for at in specs.cases):
                 wrong.append(f"{path}: `{name}` isn't among what is to be read there")
     elif found := re.match(r"\| `(crates/\w+/src/[\w/]+\.rt)` \| ((?:`\w+`(?:, )?)+) \|", line):
