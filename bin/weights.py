@@ -10,7 +10,7 @@ PARTS = ("src", "specs", "proofs")
 MEASURED = f"{TOP}/docs/gate.txt"
 HEAD = """\
 # What the gate took, by crate: the seconds of one processor, the GB that one of its processes held at most, and the lines of code, definitions and proofs
-# and the edits that the crate had then. bin/gate writes it where the gate passes; its clock and the table in docs/GATE.md are made of it (checks/gate.sh).
+# and the edits that the crate had then. bin/gate --note writes it where the gate passes; its clock and the table in docs/GATE.md are made of it (checks/gate.sh).
 """
 Measured = collections.namedtuple("Measured", "seconds gb code definitions proofs edits")
 MEMORY_OF_A_CHECK = 3_000_000  # kilobytes
@@ -59,14 +59,14 @@ def measured():
     return whole, known
 
 
-def note_measured(whole, known):
-    """Writes docs/gate.txt anew, its crates in the order of crates.txt."""
-    with open(f"{MEASURED}.new", "w", encoding="utf-8") as it:
+def note_measured(whole, known, to=MEASURED):
+    """Writes such a file anew, its crates in the order of crates.txt."""
+    with open(f"{to}.new", "w", encoding="utf-8") as it:
         it.write(HEAD)
         it.write(f"whole {' '.join(f'{name}={value}' for name, value in whole.items())}\n")
         for name in filter(known.get, crates()[0]):
             it.write(f"{name} {known[name].seconds} {known[name].gb:.1f} {' '.join(map(str, known[name][2:]))}\n")
-    os.replace(f"{MEASURED}.new", MEASURED)
+    os.replace(f"{to}.new", to)
 
 
 def seconds_known():

@@ -1,9 +1,9 @@
 """Tries the edits of crates: the mistakes of crates/NAME/edits.txt, each of which the prover must refuse.
 
     checks/edits.sh [--note] [NAME..]      all edits of the crates named, or of all crates
-    checks/edits.sh [--note] --by HASH     those of two crates, which the commit HASH picks
     checks/edits.sh --fit [NAME..]         nothing is proved: whether each edit can be applied
-    checks/edits.sh --when                 when the edits of each crate were last refused
+    checks/edits.sh --by HASH              nothing is proved: the two crates whose edits bin/gate tries at the commit HASH
+    checks/edits.sh --when                 nothing is proved: when the edits of each crate were last refused
 
 A row of edits.txt is a line with the edit's name in brackets, then lines 'file: PATH', 'old: TEXT' and 'new: TEXT', each old TEXT once in its file; a
 further old and new may follow, and a further file. Rows stand apart by an empty line. A line that begins with # is a comment.
@@ -13,13 +13,15 @@ any function. An edit is refused where a function of its name has no proof for a
 proof, the edit waits for a later round; where its function is proved, or where it stands in no function, it is tried alone, and is refused where the crate
 isn't proved. The last line is 'N refused, M not'.
 
---by takes the crates in pairs, the dearest to prove with the cheapest; each commit is as likely to pick one pair as another. type_check and typed_trees, whose
-cycles of calls take long, are tried by hand alone. --note writes down, in checks/edits_refused.txt, each crate of which all edits were refused: how
-many, the day, and the checksum of the crate, by which --when knows whether it changed since.
+bin/gate has `rt ci` try those of two crates, over its own proofs: it writes them as files of crates/NAME/must-fail/, which git ignores, and removes
+these when it ends. The crates are taken in pairs, the dearest to prove with the cheapest; each commit is as likely to pick one pair as another.
+type_check and typed_trees, whose cycles of calls take long, are tried by hand alone. --note writes down, in checks/edits_refused.txt, each crate of
+which all edits were refused: how many, the day, and the checksum of the crate, by which --when knows whether it changed since.
 """
 import argparse
 import collections
 import concurrent.futures
+import contextlib
 import datetime
 import glob
 import hashlib
@@ -38,6 +40,8 @@ import weights  # noqa: E402 (it stands in bin/)
 REFUSED = f"{TOP}/checks/edits_refused.txt"
 BY_HAND = ("type_check", "typed_trees")
 AT_ONCE = 16
+LAID = "must-fail"
+LAID_HEAD = "written by bin/gate, of edits.txt\n"
 Row = collections.namedtuple("Row", "name pairs")
 Edit = collections.namedtuple("Edit", "name pairs function cycle")
 printing = threading.Lock()
@@ -50,18 +54,6 @@ class Wrong(Exception):
 def say(text):
     with printing:
         print(text, flush=True)
-
-
-def crates():
-    """Gives each crate of crates.txt with those that it uses of this repository, and the lines."""
-    found, lines = {}, {}
-    with open(f"{TOP}/crates.txt", encoding="utf-8") as file:
-        for line in file:
-            head, _, used = line.partition("#")[0].partition(":")
-            if head.strip():
-                name = head.split()[0]
-                found[name], lines[name] = used.split(), line
-    return {name: [it for it in used if it in found] for name, used in found.items()}, lines
 
 
 def below(name, all_):
@@ -234,7 +226,7 @@ def verdicts(name, folder, edits):
     return wrong
 
 
-def tried(name, all_, lines):
+def tried(name, all_, of_kit):
     """Tries a crate's edits on a copy of it and of what stands below it. Gives how many there are, and those not refused."""
     try:
         found = rows(name)
@@ -245,7 +237,7 @@ def tried(name, all_, lines):
         shutil.copy(f"{TOP}/HANDLES", room)
         used = below(name, all_) | {name}
         with open(f"{room}/crates.txt", "w", encoding="utf-8") as it:
-            it.writelines(lines[crate] for crate in sorted(used))
+            it.writelines(f"{crate}: {' '.join([*all_[crate], *of_kit[crate]])}\n" for crate in sorted(used))
         for crate in used:
             subprocess.run(["cp", "-a", f"{TOP}/crates/{crate}", f"{room}/crates/"], check=True)
         copy = f"{room}/crates/{name}"
@@ -269,6 +261,37 @@ def picked(hash_, all_):
     return sorted({by_weight[at], by_weight[-1 - at]}), pairs
 
 
+def told(hash_, names, pairs):
+    """Says which crates a commit picks, and when their edits were last refused."""
+    known = noted()
+    return f"the commit {hash_[:12]} picks one of {pairs} pairs of crates: {'; '.join(f'{it} ({when(it, known)})' for it in names)}"
+
+
+def laid_out(names):
+    """Writes the edits of crates as `rt ci` reads them, files of must-fail/, and gives how many of each crate there are."""
+    counts = {}
+    for name in names:
+        found = rows(name)
+        os.makedirs(f"{TOP}/crates/{name}/{LAID}", exist_ok=True)
+        for row in found:
+            with open(f"{TOP}/crates/{name}/{LAID}/{row.name}.edit", "w", encoding="utf-8", newline="") as it:
+                it.write(LAID_HEAD + "".join(f"file: {file}\nold: {old}\nnew: {new}\n" for file, old, new in row.pairs))
+        counts[name] = len(found)
+    return counts
+
+
+def taken_away():
+    """Removes what laid_out wrote, also in a run that was killed, and no file of another origin."""
+    for path in glob.glob(f"{TOP}/crates/*/{LAID}/*.edit"):
+        with open(path, encoding="utf-8", errors="replace") as it:
+            is_ours = it.readline() == LAID_HEAD
+        if is_ours:
+            os.remove(path)
+    for folder in glob.glob(f"{TOP}/crates/*/{LAID}"):
+        with contextlib.suppress(OSError):
+            os.rmdir(folder)
+
+
 def sum_of(name):
     """Gives a checksum of the crate's sources and of its edits."""
     found = hashlib.sha256()
@@ -286,14 +309,14 @@ def noted():
         return {words[0]: tuple(words[1:]) for words in map(str.split, it) if words and words[0] != "#"}
 
 
-def note(refused):
+def note(refused, to=REFUSED):
     """Notes the crates of which all edits were refused, with how many and the sum from before they were tried."""
     day = datetime.datetime.now(datetime.timezone.utc).date().isoformat()
     found = noted() | {name: (str(count), day, sum_) for name, (count, sum_) in refused.items()}
-    with open(f"{REFUSED}.new", "w", encoding="utf-8") as it:
-        it.write("# Crates of which all edits were refused: how many, the day, the checksum of the crate. Written by `checks/edits.sh --note`.\n")
+    with open(f"{to}.new", "w", encoding="utf-8") as it:
+        it.write("# Crates of which all edits were refused: how many, the day, the checksum of the crate. Written by `checks/edits.sh --note` and `bin/gate --note`.\n")
         it.writelines(f"{name} {' '.join(found[name])}\n" for name in sorted(found))
-    os.replace(f"{REFUSED}.new", REFUSED)
+    os.replace(f"{to}.new", to)
 
 
 def when(name, known):
@@ -305,11 +328,11 @@ def when(name, known):
 
 def tries(names, noting):
     """Tries the edits of crates, as many crates at once as there are processors. Gives whether all were refused."""
-    all_, lines = crates()
+    all_, of_kit = weights.crates()
     sums = {name: sum_of(name) for name in names}
     count, wrong, refused = 0, [], {}
     with concurrent.futures.ThreadPoolExecutor(max(1, min(len(names), weights.at_once()))) as pool:
-        for name, (many, bad) in zip(names, pool.map(lambda it: tried(it, all_, lines), names)):
+        for name, (many, bad) in zip(names, pool.map(lambda it: tried(it, all_, of_kit), names)):
             count, wrong = count + many, wrong + bad
             if not bad:
                 refused[name] = many, sums[name]
@@ -328,20 +351,20 @@ def main(words):
     for it in ("--fit", "--when", "--note"):
         reads.add_argument(it, action="store_true")
     asked = reads.parse_args(words)
-    all_, _ = crates()
+    all_, _ = weights.crates()
     for it in asked.names:
         if it not in all_ or not has_edits(it):
             sys.exit(f"checks/edits.sh: {it} is no crate with edits")
     names = [it for it in all_ if has_edits(it) and (it in asked.names or not asked.names)]
     if asked.fit:
         return 0 if fit(names) else 1
-    known = noted()
     if asked.when:
+        known = noted()
         print("\n".join(f"{name}: {when(name, known)}" for name in names))
         return 0
     if asked.by:
-        names, pairs = picked(asked.by, all_)
-        print(f"the commit {asked.by[:12]} picks one of {pairs} pairs of crates: {'; '.join(f'{it} ({when(it, known)})' for it in names)}", flush=True)
+        print(told(asked.by, *picked(asked.by, all_)))
+        return 0
     return 0 if tries(names, asked.note) else 1
 
 
