@@ -5,3 +5,4 @@ pub mod Checking
 pub mod Unreading
 pub mod Saving
 pub mod Laws
+pub mod Choosing

@@ -182,7 +182,7 @@ module _ (ops : List Op) (t : ℕ) where
   same_truth false true h k = k refl
   same_truth false false h k = refl
 
-  marks_within : (marks : List Bool) → AreMarks ops t marks → (at : ℕ) → is_marked marks at ≡ R (length ops) at
+  pub marks_within : (marks : List Bool) → AreMarks ops t marks → (at : ℕ) → is_marked marks at ≡ R (length ops) at
   marks_within marks m at = same_truth (is_marked marks at) (R (length ops) at) (λ e. live_within at (m.live at e)) (λ e. m.all at (within_live (length ops) at e))
 
   any_is : (marks : List Bool) (xs : List ℕ) → any_marked marks xs ≡ list_any (is_marked marks) xs

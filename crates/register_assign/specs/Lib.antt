@@ -5,3 +5,4 @@ pub mod Intervals
 pub mod Checks
 pub mod Unread
 pub mod Saving
+pub mod Chosen

@@ -1,10 +1,11 @@
 // Places for a function's temporaries.
-ghost use Rattle.std.specs.Prelude.{◌≡◌, ◌+◌, ◌<◌, ◌≤◌, length, IfOk, IfSome, OnOk};
+ghost use Rattle.std.specs.Prelude.{◌≡◌, ◌+◌, ◌<◌, ◌≤◌, length, Some, IfOk, IfSome, OnOk};
 ghost use Rattle.flat_ir.specs.declared.ops.Function.{Function};
 ghost use Rattle.flat_ir.specs.WellFormed.{IsWellFormedFunction, temporaries};
 ghost use Rattle.flat_ir.specs.Liveness.{OnlyParametersAreLive};
 ghost use Rattle.register_assign.specs.Sound.{ArePlacesSound};
 ghost use Rattle.register_assign.specs.Intervals.{IsHome, IsFree, AreHomes, AreIntervals, AreAssigned, interval_of};
+ghost use Rattle.register_assign.specs.Chosen.{firsts, own_place, intervals_to, uses_of, free_register, with_register, serving, served_one, served_to, most_used, chosen_places};
 
 use crate::copies::copied;
 use crate::intervals::{Interval, interval_of, is_free};
@@ -17,7 +18,8 @@ use sts_base::{NoMemory, Seq};
 
 /// The slot or incoming word of a temporary's own.
 fn own_place(t: u32, params: u32) -> Place
-    ensures { IsHome params t result }
+    ensures home { IsHome params t result }
+    ensures chosen { result ≡ own_place params t }
 {
     if t < params {
         Place::Incoming(t)
@@ -30,7 +32,8 @@ fn own_place(t: u32, params: u32) -> Place
 #[tactic(auto, using(crate::proofs::Assigning::own_first))]
 fn own_places(alloc: Global, function: &Function) -> Result<Vec<Place>, NoMemory>
     requires { IsWellFormedFunction function.now }
-    ensures { IfOk result (λ places. AreHomes function.now places.items (temporaries function.now)) }
+    ensures homes { IfOk result (λ places. AreHomes function.now places.items (temporaries function.now)) }
+    ensures chosen { IfOk result (λ places. places.items ≡ firsts (own_place function.now.params) (temporaries function.now)) }
 {
     let mut places = Vec::new(alloc);
     for t in 0..function.params + function.locals + function.operands {
@@ -45,7 +48,8 @@ fn own_places(alloc: Global, function: &Function) -> Result<Vec<Place>, NoMemory
 #[tactic(auto, using(crate::proofs::Assigning::intervals_first))]
 fn intervals_of(alloc: Global, function: &Function) -> Result<Vec<Interval>, NoMemory>
     requires { IsWellFormedFunction function.now }
-    ensures { IfOk result (λ intervals. AreIntervals function.now intervals.items (temporaries function.now)) }
+    ensures intervals { IfOk result (λ intervals. AreIntervals function.now intervals.items (temporaries function.now)) }
+    ensures chosen { IfOk result (λ intervals. intervals.items ≡ intervals_to function.now (temporaries function.now)) }
 {
     let ops = function.ops.as_slice();
     let mut intervals = Vec::new(alloc);
@@ -62,7 +66,8 @@ fn intervals_of(alloc: Global, function: &Function) -> Result<Vec<Interval>, NoM
 /// How much each temporary is used; all are left.
 fn all_uses(alloc: Global, function: &Function) -> Result<Vec<Option<u64>>, NoMemory>
     requires { IsWellFormedFunction function.now }
-    ensures { IfOk result (λ uses. length uses.items ≡ temporaries function.now) }
+    ensures long { IfOk result (λ uses. length uses.items ≡ temporaries function.now) }
+    ensures chosen { IfOk result (λ uses. uses.items ≡ firsts (λ t. Some (uses_of function.now.ops t)) (temporaries function.now)) }
 {
     let ops = function.ops.as_slice();
     let weights = weights(alloc, ops)?;
@@ -78,7 +83,8 @@ fn all_uses(alloc: Global, function: &Function) -> Result<Vec<Option<u64>>, NoMe
 /// The first register of r4 to r7 that is free in an interval.
 fn free_register(places: &[Place], intervals: &[Interval], interval: Interval) -> Option<u8>
     requires { length places.now ≡ length intervals.now }
-    ensures { IfSome result (λ r. (4 ≤ r) × (r ≤ 7) × IsFree r places.now intervals.now interval) }
+    ensures free { IfSome result (λ r. (4 ≤ r) × (r ≤ 7) × IsFree r places.now intervals.now interval) }
+    ensures chosen { result ≡ free_register places.now intervals.now interval }
 {
     if is_free(4, places, intervals, interval) {
         Some(4)
@@ -97,6 +103,7 @@ fn free_register(places: &[Place], intervals: &[Interval], interval: Interval) -
 fn move_to_register(places: &mut [Place], intervals: &[Interval], t: usize)
     requires long { length places.old ≡ length intervals.now }
     requires known { t < length places.old }
+    ensures chosen { places.new ≡ with_register places.old intervals.now t }
     ensures long { length places.new ≡ length places.old }
     ensures assigned { (f : Function) → AreAssigned f places.old intervals.now
         → AreAssigned f places.new intervals.now }
@@ -110,6 +117,8 @@ fn move_to_register(places: &mut [Place], intervals: &[Interval], t: usize)
 fn give_next(places: &mut [Place], intervals: &[Interval], left: &mut [Option<u64>])
     requires long { length places.old ≡ length intervals.now }
     requires left { length left.old ≡ length places.old }
+    ensures chosen { serving places.new left.new
+        ≡ served_one intervals.now (serving places.old left.old) (most_used left.old) }
     ensures long { length places.new ≡ length places.old }
     ensures left { length left.new ≡ length left.old }
     ensures assigned { (f : Function) → AreAssigned f places.old intervals.now
@@ -125,7 +134,8 @@ fn give_next(places: &mut [Place], intervals: &[Interval], left: &mut [Option<u6
 fn give_registers(places: &mut [Place], intervals: &[Interval], left: &mut [Option<u64>])
     requires long { length places.old ≡ length intervals.now }
     requires left { length left.old ≡ length places.old }
-    ensures { (f : Function) → AreAssigned f places.old intervals.now → AreAssigned f places.new intervals.now }
+    ensures chosen { places.new ≡ (served_to intervals.now (serving places.old left.old) (length left.old)).places }
+    ensures assigned { (f : Function) → AreAssigned f places.old intervals.now → AreAssigned f places.new intervals.now }
 {
     for _ in 0..left.len() {
         give_next(places, intervals, left);
@@ -148,7 +158,9 @@ fn use_registers(alloc: Global, function: &Function, places: &mut [Place]) -> Re
     requires well_formed { IsWellFormedFunction function.now }
     requires entry { OnlyParametersAreLive function.now }
     requires own { AreHomes function.now places.old (temporaries function.now) }
-    ensures { OnOk result (ArePlacesSound function.now places.new) }
+    ensures sound { OnOk result (ArePlacesSound function.now places.new) }
+    ensures chosen { OnOk result (places.old ≡ firsts (own_place function.now.params) (temporaries function.now)
+        → places.new ≡ chosen_places function.now) }
 {
     let intervals = intervals_of(alloc, function)?;
     let mut left = all_uses(alloc, function)?;
@@ -160,7 +172,8 @@ fn use_registers(alloc: Global, function: &Function, places: &mut [Place]) -> Re
 fn places_for(alloc: Global, function: &Function) -> Result<Seq<Place>, NoMemory>
     requires well_formed { IsWellFormedFunction function.now }
     requires entry { OnlyParametersAreLive function.now }
-    ensures { IfOk result (λ places. ArePlacesSound function.now places) }
+    ensures sound { IfOk result (λ places. ArePlacesSound function.now places) }
+    ensures chosen { IfOk result (λ places. places ≡ chosen_places function.now) }
 {
     let mut places = own_places(alloc, function)?;
     use_registers(alloc, function, &mut places)?;
@@ -174,6 +187,7 @@ pub fn assign(alloc: Global, function: &Function) -> Result<Placed, NoMemory>
     requires well_formed { IsWellFormedFunction function.now }
     requires entry { OnlyParametersAreLive function.now }
     ensures function { IfOk result (λ placed. placed.function ≡ function.now) }
+    ensures places { IfOk result (λ placed. placed.places ≡ chosen_places function.now) }
     ensures sound { IfOk result (λ placed. ArePlacesSound placed.function placed.places) }
 {
     let places = places_for(alloc, function)?;

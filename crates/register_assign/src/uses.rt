@@ -1,5 +1,6 @@
 // How much temporaries are used.
-ghost use Rattle.std.specs.Prelude.{◌≡◌, ◌<◌, ◌≤◌, length, IfOk, IfSome};
+ghost use Rattle.std.specs.Prelude.{◌≡◌, ◌<◌, ◌≤◌, length, replicate, IfOk, IfSome, Some};
+ghost use Rattle.register_assign.specs.Chosen.{back_to, with_loop, no_bounds, loops, use_weight, weights_to, weights_of, uses_to, is_more, most_used};
 
 use crate::liveness::writes;
 use crate::ops::reads;
@@ -12,16 +13,17 @@ const DEEPEST: u32 = 12;
 
 /// Where loops begin and end.
 #[derive(Clone, Copy)]
-struct Bounds {
+pub struct Bounds {
     /// whether one begins at the op
-    begins: bool,
+    pub begins: bool,
     /// how many have ended right before it
-    ended: u32,
+    pub ended: u32,
 }
 
 /// The op at or before this one at which a run goes on from it.
 fn back_to(op: &Op, at: usize) -> Option<usize>
-    ensures { IfSome result (λ target. target ≤ at) }
+    ensures back { result ≡ back_to at (Some op.now) }
+    ensures before { IfSome result (λ target. target ≤ at) }
 {
     let target = match op {
         Op::Jump { target } | Op::Branch { target, .. } => *target as usize,
@@ -33,7 +35,8 @@ fn back_to(op: &Op, at: usize) -> Option<usize>
 /// Notes a loop, unless one that begins at the same op is noted.
 fn note_loop(bounds: &mut [Bounds], begin: usize, end: usize)
     requires { begin < length bounds.old }
-    ensures { length bounds.new ≡ length bounds.old }
+    ensures bounds { bounds.new ≡ with_loop bounds.old begin end }
+    ensures long { length bounds.new ≡ length bounds.old }
 {
     if bounds[begin].begins {
         return;
@@ -46,8 +49,9 @@ fn note_loop(bounds: &mut [Bounds], begin: usize, end: usize)
 
 /// Notes the loops of ops: one begins wherever a run goes back to, and ends behind the last op from which it does.
 fn note_loops(ops: &[Op], bounds: &mut [Bounds])
-    requires { length bounds.old ≡ length ops.now }
-    ensures { length bounds.new ≡ length ops.now }
+    requires { bounds.old ≡ replicate (length ops.now) no_bounds }
+    ensures loops { bounds.new ≡ loops ops.now }
+    ensures long { length bounds.new ≡ length ops.now }
 {
     let mut at = ops.len();
     while at > 0 {
@@ -59,7 +63,9 @@ fn note_loops(ops: &[Op], bounds: &mut [Bounds])
 }
 
 /// What a use counts in so many loops: ten times as much for each.
-fn weight(depth: u32) -> u64 {
+fn weight(depth: u32) -> u64
+    ensures { result ≡ use_weight depth }
+{
     let mut weight = 1u64;
     for _ in 0..depth.min(DEEPEST) {
         weight = weight.saturating_mul(10);
@@ -67,24 +73,29 @@ fn weight(depth: u32) -> u64 {
     weight
 }
 
-/// Notes what a use at each op counts.
-fn weigh(bounds: &[Bounds], weights: &mut [u64])
-    requires { length weights.old ≡ length bounds.now }
-    ensures { length weights.new ≡ length bounds.now }
+/// What a use at each op counts.
+fn weigh(alloc: Global, bounds: &[Bounds]) -> Result<Vec<u64>, NoMemory>
+    ensures weights { IfOk result (λ weights. weights.items ≡ weights_to bounds.now (length bounds.now)) }
+    ensures long { IfOk result (λ weights. length weights.items ≡ length bounds.now) }
 {
+    let mut weights = Vec::new(alloc);
     let mut depth = 0u32;
-    for (at, here) in bounds.iter().enumerate() {
+    for here in bounds {
         depth = depth.saturating_sub(here.ended);
         if here.begins {
             depth = depth.saturating_add(1);
         }
-        weights[at] = weight(depth);
+        if weights.push(weight(depth)).is_err() {
+            return Err(NoMemory);
+        }
     }
+    Ok(weights)
 }
 
 /// What a use at each op counts.
 pub fn weights(alloc: Global, ops: &[Op]) -> Result<Vec<u64>, NoMemory>
-    ensures { IfOk result (λ weights. length weights.items ≡ length ops.now) }
+    ensures weights { IfOk result (λ weights. weights.items ≡ weights_of ops.now) }
+    ensures long { IfOk result (λ weights. length weights.items ≡ length ops.now) }
 {
     let none = Bounds {
         begins: false,
@@ -94,18 +105,14 @@ pub fn weights(alloc: Global, ops: &[Op]) -> Result<Vec<u64>, NoMemory>
         Ok(bounds) => bounds,
         Err(_) => return Err(NoMemory),
     };
-    let mut weights = match vec![in alloc; 1u64; ops.len()] {
-        Ok(weights) => weights,
-        Err(_) => return Err(NoMemory),
-    };
     note_loops(ops, &mut bounds);
-    weigh(&bounds, &mut weights);
-    Ok(weights)
+    weigh(alloc, &bounds)
 }
 
 /// How much a temporary is used: what its reads and writes count, added up.
 pub fn uses(ops: &[Op], t: usize, weights: &[u64]) -> u64
     requires { length weights.now ≡ length ops.now }
+    ensures { result ≡ uses_to ops.now t weights.now (length ops.now) }
 {
     let mut sum = 0u64;
     for (at, op) in ops.iter().enumerate() {
@@ -120,7 +127,9 @@ pub fn uses(ops: &[Op], t: usize, weights: &[u64]) -> u64
 }
 
 /// Whether a use is left, and none is that is as much.
-fn is_more(uses: Option<u64>, most: Option<u64>) -> bool {
+fn is_more(uses: Option<u64>, most: Option<u64>) -> bool
+    ensures { result ≡ is_more uses most }
+{
     match (uses, most) {
         (Some(uses), Some(most)) => uses > most,
         (uses, _) => uses.is_some(),
@@ -129,7 +138,8 @@ fn is_more(uses: Option<u64>, most: Option<u64>) -> bool {
 
 /// The first of those left that is used most. None where none is left.
 pub fn most_used(left: &[Option<u64>]) -> Option<usize>
-    ensures { IfSome result (λ t. t < length left.now) }
+    ensures most { result ≡ most_used left.now }
+    ensures there { IfSome result (λ t. t < length left.now) }
 {
     let mut best = None;
     let mut most = None;

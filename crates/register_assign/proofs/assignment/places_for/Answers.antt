@@ -1,5 +1,4 @@
-use Rattle.std.proofs.Common.{List, sym, subst, arith}
-use Rattle.std.proofs.lemmas.Grind.{common_steps}
+use Rattle.std.proofs.Common.{List, sym, subst}
 use Rattle.flat_ir.specs.WellFormed.{temporaries}
 use Rattle.register_assign.specs.declared.places.Place.{Place}
 use Rattle.register_assign.specs.Intervals.{AreHomes}
@@ -8,7 +7,4 @@ use Rattle.register_assign.proofs.assignment.places_for.Goals as goal
 pub use_registers-requires-clause-own : goal.use_registers-requires-clause-own
 use_registers-requires-clause-own c =
     let f = c.args.function.now in
-    subst (λ (q : List Place). AreHomes f q (temporaries f)) (sym c.deref_mut.ensures.value) c.in_ok-places.ensures
-
-pub returns : goal.returns
-returns c = grind (arith, common_steps)
+    subst (λ (q : List Place). AreHomes f q (temporaries f)) (sym c.deref_mut.ensures.value) c.in_ok-places.ensures.homes
