@@ -13,4 +13,5 @@ mod Giving
 mod Heard
 mod Later
 mod Onward
+mod Texts
 pub mod Laws

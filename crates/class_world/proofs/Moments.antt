@@ -21,6 +21,8 @@ use Rattle.board_world.specs.Before.{is_by_clock, is_jump_before, moves_before, 
 use Rattle.board_world.proofs.Laws.{IsTimely, jump_soonest, if_keeps, over_stays, busy_stays, idled_first, progress, due, On, by_clock_over, clock_all, moved_on, idle_on, acted_on, tick_on}
 use Rattle.class_world.specs.Hearing.{moment_of, before}
 use Rattle.class_world.specs.Classes.{Passes}
+use Rattle.board_world.specs.Transcript.{closing_line}
+use Rattle.class_world.specs.Lines.{numbered, is_stopped, stopped_at}
 
 -- what a turn adds to what was seen, it adds at the present moment
 module _ (P : ℕ → ℕ → List Entry → List Observation → Type 0) where
@@ -300,7 +302,37 @@ before_sooner t o xs h e =
     (let one : before t (o ∷ []) ≡ o ∷ [] = (let soon : nat_lt (moment_of o) t ≡ true = grind (arith, nat_tests) in rw soon refl) in
     before_split t xs (o ∷ []) ∙ ap (λ (l : List Observation). l ++ before t (o ∷ [])) e ∙ ap (λ (l : List Observation). xs ++ l) one)
 
+-- a run that hasn't ended has no panic, and one that the clock ended neither; one that panicked has the line at the moment of that alone
+no_line_going : (s b : ℕ) (w : Board) → over w ≡ false → stopped_at s b w ≡ []
+no_line_going s b w o = rw o refl
+
+no_line_by_clock : (s b : ℕ) (w : Board) → is_by_clock w.end ≡ true → stopped_at s b w ≡ []
+no_line_by_clock s b w c = by_over (over w)
+  where
+    by_over : (d : Bool) → (if (d && not (is_by_clock w.end)) && (w.clock == s) then numbered b (closing_line w.clock w.end) else []) ≡ []
+    by_over true = rw c refl
+    by_over false = refl
+
+no_line_elsewhere : (s b : ℕ) (w : Board) → s < w.clock → stopped_at s b w ≡ []
+no_line_elsewhere s b w l = by_stop (is_stopped w)
+  where
+    by_stop : (d : Bool) → (if d && (w.clock == s) then numbered b (closing_line w.clock w.end) else []) ≡ []
+    by_stop true = (let other : (w.clock == s) ≡ false = grind (arith, nat_tests) in rw other refl)
+    by_stop false = refl
+
 module _ {A S : Type 0} (K : Kind A S) (t : ℕ) where
+  -- a run that the clock has ended, or that has come to t, has no panic before t
+  abbrev IsLate : World A S → Type 0
+  IsLate u = (is_by_clock u.board.end ≡ true) ⊎ (t ≤ u.board.clock)
+
+  no_line_late : (s b : ℕ) (u : World A S) → s < t → IsLate u → stopped_at s b u.board ≡ []
+  no_line_late s b u l (inl c) = no_line_by_clock s b u.board c
+  no_line_late s b u l (inr h) = no_line_elsewhere s b u.board (omega (arith, l, h))
+
+  -- two runs have the same lines of panics before t
+  abbrev pub StopsAlike : World A S → World A S → Type 0
+  StopsAlike v u = (s b : ℕ) → s < t → stopped_at s b u.board ≡ stopped_at s b v.board
+
   -- all that was seen was before t, and so is the present
   pub record IsEarly (w : World A S) : Type 0 where
     pub clock : w.board.clock < t
@@ -350,6 +382,7 @@ module _ {A S : Type 0} (K : Kind A S) (t : ℕ) where
   pub record IsPast (v u : World A S) : Type 0 where
     pub stopped : IsStopped v
     pub seen : before t u.board.seen ≡ v.board.seen
+    pub stops : StopsAlike v u
     pub passes : Passes t u
     pub timely : over u.board ≡ false → IsTimely u
 
@@ -367,15 +400,19 @@ module _ {A S : Type 0} (K : Kind A S) (t : ℕ) where
   past_on : (v u : World A S) → IsPast v u → IsPast (tick_before K t v) (tick K u)
   past_on v u h = subst (λ (x : World A S). IsPast x (tick K u)) (sym (stopped_stays v h.stopped)) (by_over (over u.board) refl)
     where
+      alike : over u.board ≡ false → IsLate (tick K u) → StopsAlike v (tick K u)
+      alike o late = λ s b l. no_line_late s b (tick K u) l late ∙ sym (no_line_going s b u.board o) ∙ h.stops s b l
+
       by_end : over u.board ≡ false → t ≤ u.board.clock → (c : Bool) → is_by_clock (tick K u).board.end ≡ c → IsPast v (tick K u)
-      by_end o late true e = record { stopped = h.stopped; seen = seen_late u late ∙ h.seen; passes = inl (ended (tick K u).board.end e); timely = λ o'. absurd (let e' = ended (tick K u).board.end e in cc) }
+      by_end o late true e = record { stopped = h.stopped; seen = seen_late u late ∙ h.seen; stops = alike o (inl e); passes = inl (ended (tick K u).board.end e); timely = λ o'. absurd (let e' = ended (tick K u).board.end e in cc) }
         where
           ended : (x : Option End) → is_by_clock x ≡ true → is_some x ≡ true
           ended None q = cc
           ended (Some y) q = refl
       by_end o late false e =
           (let r : On u (tick K u) = tick_on K u (h.timely o) e in
-          record { stopped = h.stopped; seen = seen_late u late ∙ h.seen; passes = inr (let l : u.board.clock ≤ (tick K u).board.clock = r.clock in omega (arith, l, late)); timely = λ o'. r.timely })
+          let on : t ≤ (tick K u).board.clock = (let l : u.board.clock ≤ (tick K u).board.clock = r.clock in omega (arith, l, late)) in
+          record { stopped = h.stopped; seen = seen_late u late ∙ h.seen; stops = alike o (inr on); passes = inr on; timely = λ o'. r.timely })
 
       by_pass : over u.board ≡ false → Passes t u → IsPast v (tick K u)
       by_pass o (inl e) = absurd (cc)
@@ -402,8 +439,12 @@ module _ {A S : Type 0} (K : Kind A S) (t : ℕ) where
   ended_so None q = cc
   ended_so (Some y) q = refl
 
+  late_passes : (u : World A S) → IsLate u → Passes t u
+  late_passes u (inl c) = inl (ended_so u.board.end c)
+  late_passes u (inr l) = inr l
+
   record IsBeyond (u : World A S) : Type 0 where
-    pub passes : Passes t u
+    pub late : IsLate u
     pub timely : over u.board ≡ false → IsTimely u
 
   beyond : (v : World A S) → IsTimely v → IsAtRest K t v → over v.board ≡ false → v.ready ≡ [] → IsBeyond (idled K v)
@@ -413,22 +454,28 @@ module _ {A S : Type 0} (K : Kind A S) (t : ℕ) where
       Next = moved K v.board.queue v
 
       by_last : On v Next → t ≤ Next.board.clock → (c : Bool) → is_by_clock (idled K Next).board.end ≡ c → IsBeyond (idled K Next)
-      by_last m late true q = record { passes = inl (ended_so (idled K Next).board.end q); timely = λ o'. absurd (let q' = ended_so (idled K Next).board.end q in cc) }
+      by_last m late true q = record { late = inl q; timely = λ o'. absurd (let q' = ended_so (idled K Next).board.end q in cc) }
       by_last m late false q =
           (let r : On Next (idled K Next) = idle_on K (idle_bound Next.board) Next.ready Next m.timely q in
-          record { passes = inr (let l : Next.board.clock ≤ (idled K Next).board.clock = r.clock in omega (arith, l, late)); timely = λ o'. r.timely })
+          record { late = inr (let l : Next.board.clock ≤ (idled K Next).board.clock = r.clock in omega (arith, l, late)); timely = λ o'. r.timely })
 
       by_first : (c : Bool) → is_by_clock Next.board.end ≡ c → IsBeyond (idled K Next)
       by_first true q =
           (let over_now : over Next.board ≡ true = ended_so Next.board.end q in
           let stays : idled K Next ≡ Next = over_stays K (idle_bound Next.board) Next.ready Next over_now in
-          subst IsBeyond (sym stays) (record { passes = inl over_now; timely = λ o'. absurd (cc) }))
+          subst IsBeyond (sym stays) (record { late = inl q; timely = λ o'. absurd (cc) }))
       by_first false q = by_last (moved_on K v.board.queue v k q) (next_move v v.board.queue (rest o e) o q) (is_by_clock (idled K Next).board.end) refl
 
   leaves_behind : (v : World A S) → IsEarly v → IsTimely v → IsAtRest K t v → over v.board ≡ false → v.ready ≡ [] → IsPast v (idled K v)
   leaves_behind v h k rest o e =
       (let b : IsBeyond (idled K v) = beyond v k rest o e in
-      record { stopped = inr e; seen = ap (before t) (seen_idle K (idle_bound v.board) v.ready v) ∙ h.seen; passes = b.passes; timely = b.timely })
+      record {
+        stopped = inr e;
+        seen = ap (before t) (seen_idle K (idle_bound v.board) v.ready v) ∙ h.seen;
+        stops = λ s n l. no_line_late s n (idled K v) l b.late ∙ sym (no_line_going s n v.board o);
+        passes = late_passes (idled K v) b.late;
+        timely = b.timely;
+      })
 
   abbrev IsTimelyOrOver : World A S → Type 0
   IsTimelyOrOver u = over u.board ≡ false → IsTimely u
@@ -438,7 +485,7 @@ module _ {A S : Type 0} (K : Kind A S) (t : ℕ) where
   Beside n w = ((run_before K t n w ≡ run K n w) × IsSettled (run K n w) × IsTimelyOrOver (run K n w)) ⊎ IsPast (run_before K t n w) (run K n w)
 
   over_past : (x : World A S) → IsEarly x → over x.board ≡ true → IsPast x x
-  over_past x h o = record { stopped = inl o; seen = h.seen; passes = inl o; timely = λ o'. absurd (cc) }
+  over_past x h o = record { stopped = inl o; seen = h.seen; stops = λ s b l. refl; passes = inl o; timely = λ o'. absurd (cc) }
 
   -- one step of both from one world
   step_beside : (x : World A S) → IsEarly x → IsSettled x → IsTimely x → over x.board ≡ false
@@ -515,15 +562,16 @@ module _ {A S : Type 0} (K : Kind A S) (t : ℕ) where
       by_over v u q h' false o =
           subst (λ (x : World A S). ((tick_before K t x ≡ tick K u) × IsSettled (tick K u) × IsTimelyOrOver (tick K u)) ⊎ IsPast (tick_before K t x) (tick K u)) (sym q.0) (step_beside u (subst IsEarly q.0 h') q.1 (q.2 o) o)
 
-  -- what a run that passes t saw before t is what the run that stops before t saw
+  -- what a run that passes t saw before t is what the run that stops before t saw, and so is a panic before t
   pub record IsCutAt (n : ℕ) (w : World A S) : Type 0 where
     pub stopped : IsStopped (run_before K t n w)
     pub seen : before t (run K n w).board.seen ≡ (run_before K t n w).board.seen
+    pub stops : StopsAlike (run_before K t n w) (run K n w)
 
   pub cut_at : (n : ℕ) (w : World A S) → IsEarly w → IsSettled w → IsTimely w → Passes t (run K n w) → IsCutAt n w
   cut_at n w h s k p = elim (beside n w h s k) [
-    | inr q ↦ record { stopped = q.stopped; seen = q.seen }
-    | inl q ↦ (let r = by_pass (run_before K t n w) (run K n w) q.0 (early_run n w h) p in record { stopped = r.0; seen = r.1 })
+    | inr q ↦ record { stopped = q.stopped; seen = q.seen; stops = q.stops }
+    | inl q ↦ (let r = by_pass (run_before K t n w) (run K n w) q.0 (early_run n w h) p in record { stopped = r.0; seen = r.1; stops = λ s b l. ap (λ (x : World A S). stopped_at s b x.board) (sym q.0) })
   ]
     where
       by_pass : (v u : World A S) → v ≡ u → IsEarly v → Passes t u → IsStopped v × (before t u.board.seen ≡ v.board.seen)
