@@ -6,4 +6,5 @@ mod Cutting
 mod Longer
 mod Begins
 mod Clock
+mod Same
 pub mod Laws

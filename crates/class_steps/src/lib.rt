@@ -2,5 +2,7 @@
 #![tactic(auto)]
 
 mod stepping;
+mod texts;
 
 pub use stepping::{boards_in_a_moment_begin_a_text, boards_that_wait_have_ended};
+pub use texts::one_class_text;

@@ -19,6 +19,8 @@ pub use Rattle.class_world.proofs.Later.{on_run, seen_from}
 -- boards that were stepped are a class run, and classes end or are cut
 pub use Rattle.class_world.proofs.Stepped.{one_passes, stepped_runs}
 pub use Rattle.class_world.proofs.On.{all_ended, ends_or_is_cut}
+-- a class has one text
+pub use Rattle.class_world.proofs.Texts.{one_whole, not_both, one_cut}
 -- lines
 pub use Rattle.class_world.proofs.Lines.{lines_same, lines_skip, seen_at_new, seen_at_all}
 -- a class of boards that implement others is run as far
