@@ -1,15 +1,18 @@
 -- A flash that has the routine's halfwords: its instructions are fetched from it.
-use Rattle.std.proofs.Common.{zero, suc, ◌≡◌, ℕ, ◌+◌, ◌*◌, ◌/◌, ◌%◌, ◌^◌, ◌<◌, ◌≤◌, List, [], ◌∷◌, Bool, true, false, length, refl, sym, ap, ◌∙◌, subst, arith, slice_get, Some, slice_index, map}
-use Rattle.std.specs.Prelude.{◌&&◌, if◌then◌else◌, Option}
+use Rattle.std.proofs.Common.{zero, suc, ◌≡◌, ℕ, ◌+◌, ◌*◌, ◌/◌, ◌%◌, ◌^◌, ◌<◌, ◌≤◌, List, [], ◌∷◌, ◌++◌, Bool, true, false, length, refl, sym, ap, ◌∙◌, subst, arith, slice_get, Some, slice_index, map}
+use Rattle.std.specs.Prelude.{◌&&◌, if◌then◌else◌, Option, negsuc}
 use Rattle.std.proofs.lemmas.Bool.{false≢true, lt-ltb, ne_eqb}
 use Rattle.thumb_code.specs.declared.instructions.Instr.{Instr}
+use Rattle.thumb_code.specs.declared.instructions.Instr.TheVariants.{LslImm, LsrImm, B}
 use Rattle.thumb_code.specs.RegisterFile.{is_odd, word}
 use Rattle.thumb_code.specs.Reading.{is_wide, reading_of}
 use Rattle.thumb_code.specs.Faults.{not_thumb, out_of_map, stack_range}
 use Rattle.thumb_code.specs.Map.{flash_byte, flash_half, flash_end, in_flash, is_base}
 use Rattle.thumb_code.specs.Step.{Found, Missed, fetched, found, behind}
-use Rattle.thumb_code.specs.Table.{spelling}
-use Rattle.thumb_divide.specs.Routine.{routine, routine_halfwords, bytes_of, routine_bytes, routine_length, HasRoutine, HoldsRoutine}
+use Rattle.thumb_code.specs.Table.{spelling, half, Fits, IsSpelling, is_two}
+use Rattle.thumb_code.specs.declared.halfwords.Half.TheVariants.{One}
+use Rattle.thumb_code.proofs.Laws.{is_wide-spelled, reading_of-spelled}
+use Rattle.thumb_divide.specs.Routine.{signs, skips, round_above, rounds_above, last_round, signs_again, routine, routine_halfwords, bytes_of, routine_bytes, routine_length, HasRoutine, HoldsRoutine}
 
 -- an instruction's halfword is one, and reads as the instruction
 abbrev IsRead : Instr → Type 0
@@ -19,8 +22,52 @@ abbrev AllRead : List Instr → Type 0
 AllRead [] = Unit {0}
 AllRead (x ∷ xs) = IsRead x × AllRead xs
 
+both-read : (xs ys : List Instr) → AllRead xs → AllRead ys → AllRead (xs ++ ys)
+both-read [] ys a b = b
+both-read (x ∷ xs) ys a b = (a.0, both-read xs ys a.1 b)
+
+-- what a law says of an instruction whose fields fit
+fits-read : (x : Instr) → Fits x → half x ≡ One (spelling x) → IsRead x
+fits-read x fits e =
+    let f : IsSpelling (half x) (spelling x) 0 = rw e refl in
+    (is_wide-spelled x (spelling x) 0 fits f ∙ ap is_two e, λ s. reading_of-spelled x (spelling x) s fits (rw e refl))
+
+shift-read : (k : ℕ) → k < 32 → IsRead (LsrImm 3 2 k) × IsRead (LslImm 3 1 k)
+shift-read k l = (fits-read (LsrImm 3 2 k) fits refl, fits-read (LslImm 3 1 k) fits' refl)
+  where
+    fits : Fits (LsrImm 3 2 k)
+    fits = ((omega arith, (l, (omega arith, (omega arith, tt)))), tt)
+
+    fits' : Fits (LslImm 3 1 k)
+    fits' = ((omega arith, (l, (omega arith, (omega arith, tt)))), tt)
+
+round-read : (k : ℕ) → k < 32 → AllRead (round_above k)
+round-read k l = let s = shift-read k l in (s.0, ((refl, λ s. refl), ((refl, λ s. refl), (s.1, ((refl, λ s. refl), ((refl, λ s. refl), tt))))))
+
+rounds-read : (more lowest : ℕ) → more + lowest ≤ 32 → AllRead (rounds_above more lowest)
+rounds-read zero lowest l = tt
+rounds-read (suc more) lowest l = both-read (round_above (more + lowest)) (rounds_above more lowest) (round-read (more + lowest) (omega arith)) (rounds-read more lowest (omega arith))
+
+signs-read : AllRead signs
+signs-read = ((refl, λ s. refl), ((refl, λ s. refl), ((refl, λ s. refl), ((refl, λ s. refl), ((refl, λ s. refl), ((refl, λ s. refl), ((refl, λ s. refl), ((refl, λ s. refl), ((refl, λ s. refl), ((refl, λ s. refl), ((refl, λ s. refl), ((refl, λ s. refl), ((refl, λ s. refl), ((refl, λ s. refl), ((refl, λ s. refl), ((refl, λ s. refl), tt))))))))))))))))
+
+skips-read : AllRead skips
+skips-read = ((refl, λ s. refl), ((refl, λ s. refl), ((refl, λ s. refl), ((refl, λ s. refl), ((refl, λ s. refl), ((refl, λ s. refl), ((refl, λ s. refl), ((refl, λ s. refl), ((refl, λ s. refl), ((refl, λ s. refl), ((refl, λ s. refl), ((refl, λ s. refl), ((refl, λ s. refl), ((refl, λ s. refl), ((refl, λ s. refl), ((refl, λ s. refl), tt))))))))))))))))
+
+last-read : AllRead last_round
+last-read = ((refl, λ s. refl), ((refl, λ s. refl), ((refl, λ s. refl), ((refl, λ s. refl), tt))))
+
+again-read : AllRead signs_again
+again-read = ((refl, λ s. refl), ((refl, λ s. refl), ((refl, λ s. refl), ((refl, λ s. refl), ((refl, λ s. refl), ((refl, λ s. refl), ((refl, λ s. refl), ((refl, λ s. refl), ((refl, λ s. refl), ((refl, λ s. refl), tt))))))))))
+
 routine-read : AllRead routine
-routine-read = ((refl, λ s. refl), ((refl, λ s. refl), ((refl, λ s. refl), ((refl, λ s. refl), ((refl, λ s. refl), ((refl, λ s. refl), ((refl, λ s. refl), ((refl, λ s. refl), ((refl, λ s. refl), ((refl, λ s. refl), ((refl, λ s. refl), ((refl, λ s. refl), ((refl, λ s. refl), ((refl, λ s. refl), ((refl, λ s. refl), ((refl, λ s. refl), ((refl, λ s. refl), ((refl, λ s. refl), ((refl, λ s. refl), ((refl, λ s. refl), ((refl, λ s. refl), ((refl, λ s. refl), ((refl, λ s. refl), ((refl, λ s. refl), ((refl, λ s. refl), ((refl, λ s. refl), ((refl, λ s. refl), ((refl, λ s. refl), ((refl, λ s. refl), ((refl, λ s. refl), ((refl, λ s. refl), ((refl, λ s. refl), ((refl, λ s. refl), ((refl, λ s. refl), tt))))))))))))))))))))))))))))))))))
+routine-read =
+    both-read signs (skips ++ (rounds_above 15 1 ++ (last_round ++ (signs_again ++ (rounds_above 16 16 ++ (B (negsuc 403) ∷ [])))))) signs-read
+    (both-read skips (rounds_above 15 1 ++ (last_round ++ (signs_again ++ (rounds_above 16 16 ++ (B (negsuc 403) ∷ []))))) skips-read
+    (both-read (rounds_above 15 1) (last_round ++ (signs_again ++ (rounds_above 16 16 ++ (B (negsuc 403) ∷ [])))) (rounds-read 15 1 (omega arith))
+    (both-read last_round (signs_again ++ (rounds_above 16 16 ++ (B (negsuc 403) ∷ []))) last-read
+    (both-read signs_again (rounds_above 16 16 ++ (B (negsuc 403) ∷ [])) again-read
+    (both-read (rounds_above 16 16) (B (negsuc 403) ∷ []) (rounds-read 16 16 (omega arith)) ((refl, λ s. refl), tt))))))
 
 read-at : (xs : List Instr) (i : ℕ) (x : Instr) → AllRead xs → slice_get xs i ≡ Some x → IsRead x
 read-at [] i x all e = let bad : ⊥ = cc in absurd bad
@@ -59,7 +106,7 @@ pub routine_stands : (flash : List ℕ) (base at : ℕ) → is_base base ≡ tru
 routine_stands flash base at b has = record {
   each = λ i x e. (
       let read = read-at routine i x routine-read e in
-      let few : i < 34 = within routine i x e in
+      let few : i < 233 = within routine i x e in
       let even = has.even in
       let room = has.inside in
       let there = fetched-one flash base (at + 2 * i) (spelling x) x b (omega arith) (omega arith) (has.halfwords i (spelling x) (halfword-at routine i x e)) read.0 read.1 in
@@ -84,7 +131,7 @@ bytes_have_routine flash at even inside bytes = record {
   even = even;
   inside = inside;
   halfwords = λ i h e. (
-      let few : i < 34 = within routine_halfwords i h e in
+      let few : i < 233 = within routine_halfwords i h e in
       let parts = bytes-at routine_halfwords i h e in
       let low : flash_byte flash (at + 2 * i) ≡ h % 256 = bytes (2 * i) (omega arith) ∙ parts.0 in
       let place : at + 2 * i + 1 ≡ at + (2 * i + 1) = omega arith in

@@ -91,13 +91,13 @@ thirteen _ e = elim (let f : ⊥ = omega arith in f) [ ]
 
 module _ {S : Type 0} (over : Executor S) (fetch : ℕ → Fetched) (t : S) (sp at : ℕ) (quiet : IsQuiet over t sp) (code : HoldsRoutine fetch at) where
   abbrev Result : Registers → Type 0
-  Result s = (q : Registers) × Within over fetch t 280 s q × Divided s q
+  Result s = (q : Registers) × Within over fetch t 231 s q × Divided s q
 
   module _ (lr : ℕ) (odd : is_odd lr ≡ true) (x4 x5 x6 x7 x8 x9 x10 x11 : ℕ) where
     abbrev state : (flags a d r j h pc : ℕ) → Registers
     state flags a d r j h pc = record { r = a ∷ (d ∷ (r ∷ (j ∷ (x4 ∷ (x5 ∷ (x6 ∷ (x7 ∷ (x8 ∷ (x9 ∷ (x10 ∷ (x11 ∷ (h ∷ [])))))))))))); sp = sp; lr = lr; pc = pc; flags = flags }
 
-    done : (f a d r j h f' q m r' j' h' n : ℕ) → n ≤ 280 → Within over fetch t n (state f a d r j h (at + 0)) (state f' q m r' j' h' (lr - 1)) → (q < 2 ^ 32) × (m < 2 ^ 32) → (q ≡ Quotient a d) × (m ≡ Remainder a d) → Result (state f a d r j h (at + 0))
+    done : (f a d r j h f' q m r' j' h' n : ℕ) → n ≤ 231 → Within over fetch t n (state f a d r j h (at + 0)) (state f' q m r' j' h' (lr - 1)) → (q < 2 ^ 32) × (m < 2 ^ 32) → (q ≡ Quotient a d) × (m ≡ Remainder a d) → Result (state f a d r j h (at + 0))
     done f a d r j h f' q m r' j' h' n l w sm e = (
       state f' q m r' j' h' (lr - 1),
       (let g = w.few in record { count = w.count; few = omega arith; steps = w.steps }),
@@ -106,21 +106,21 @@ module _ {S : Type 0} (over : Executor S) (fetch : ℕ → Fetched) (t : S) (sp 
 
     by_signs : (f a d r j h : ℕ) → a < 2 ^ 32 → d < 2 ^ 32 → 0 < d → (b c : Bool) → nat_lt a (2 ^ 31) ≡ b → nat_lt d (2 ^ 31) ≡ c → Result (state f a d r j h (at + 0))
     by_signs f a d r j h l m p true true u v =
-        let w = both_up over fetch t sp lr at quiet code x4 x5 x6 x7 x8 x9 x10 x11 f a d r j h odd (grind arith) (grind arith) p in
-        done f a d r j h w.0 _ _ _ _ _ 280 (omega arith) w.1 (let x = div-le_self a d in let y = mod-le a d in (omega arith, omega arith)) (up_is a d (grind arith) (grind arith) p)
+        let w = both_up over fetch t sp lr quiet x4 x5 x6 x7 x8 x9 x10 x11 at code f a d r j h odd (grind arith) (grind arith) p in
+        done f a d r j h w.0 _ _ _ _ _ 231 (omega arith) w.1 (let x = div-le_self a d in let y = mod-le a d in (omega arith, omega arith)) (up_is a d (grind arith) (grind arith) p)
     by_signs f a d r j h l m p true false u v =
-        let w = divisor_below over fetch t sp lr at quiet code x4 x5 x6 x7 x8 x9 x10 x11 f a d r j h odd (grind arith) m (grind arith) in
-        done f a d r j h w.0 _ _ _ _ _ 280 (omega arith) w.1 (let y = mod-le a (minus d) in (omega arith, omega arith)) (divisor_is a d (grind arith) m (grind arith))
+        let w = divisor_below over fetch t sp lr quiet x4 x5 x6 x7 x8 x9 x10 x11 at code f a d r j h odd (grind arith) m (grind arith) in
+        done f a d r j h w.0 _ _ _ _ _ 231 (omega arith) w.1 (let y = mod-le a (minus d) in (omega arith, omega arith)) (divisor_is a d (grind arith) m (grind arith))
     by_signs f a d r j h l m p false true u v =
-        let w = dividend_below over fetch t sp lr at quiet code x4 x5 x6 x7 x8 x9 x10 x11 f a d r j h odd l (grind arith) (grind arith) p in
-        done f a d r j h w.0 _ _ _ _ _ 280 (omega arith) w.1 (omega arith, omega arith) (dividend_is a d l (grind arith) (grind arith) p)
+        let w = dividend_below over fetch t sp lr quiet x4 x5 x6 x7 x8 x9 x10 x11 at code f a d r j h odd l (grind arith) (grind arith) p in
+        done f a d r j h w.0 _ _ _ _ _ 231 (omega arith) w.1 (omega arith, omega arith) (dividend_is a d l (grind arith) (grind arith) p)
     by_signs f a d r j h l m p false false u v =
-        let w = both_below over fetch t sp lr at quiet code x4 x5 x6 x7 x8 x9 x10 x11 f a d r j h odd l (grind arith) m (grind arith) in
-        done f a d r j h w.0 _ _ _ _ _ 280 (omega arith) w.1 (let x = div-le_self (minus a) (minus d) in (omega arith, omega arith)) (both_is a d l (grind arith) m (grind arith))
+        let w = both_below over fetch t sp lr quiet x4 x5 x6 x7 x8 x9 x10 x11 at code f a d r j h odd l (grind arith) m (grind arith) in
+        done f a d r j h w.0 _ _ _ _ _ 231 (omega arith) w.1 (let x = div-le_self (minus a) (minus d) in (omega arith, omega arith)) (both_is a d l (grind arith) m (grind arith))
 
     by_divisor : (f a d r j h : ℕ) → a < 2 ^ 32 → d < 2 ^ 32 → Result (state f a d r j h (at + 0))
     by_divisor f a zero r j h l m =
-        let w = by_zero over fetch t sp lr at quiet code x4 x5 x6 x7 x8 x9 x10 x11 f a r j h odd in
+        let w = by_zero over fetch t sp lr quiet x4 x5 x6 x7 x8 x9 x10 x11 at code f a r j h odd in
         done f a 0 r j h w.0 _ _ _ _ _ 4 (omega arith) w.1 (omega arith, omega arith) (none_is a)
     by_divisor f a (suc b) r j h l m = by_signs f a (suc b) r j h l m (omega arith) (nat_lt a (2 ^ 31)) (nat_lt (suc b) (2 ^ 31)) refl refl
 

@@ -9,7 +9,7 @@ ghost use Rattle.thumb_divide.specs.Divides.{Divides};
 ghost use Rattle.thumb_divide.specs.Banked.{IsInRegion};
 
 /// A flash that has the routine's bytes from an even address on has the routine, and each of its instructions is fetched from it. Over a fiber's bank
-/// it then divides, in at most 280 instructions, and no word of the bank or of shared memory changes. That it does so over any memory that reads
+/// it then divides, in at most 231 instructions, and no word of the bank or of shared memory changes. That it does so over any memory that reads
 /// such a flash is in `proofs/Laws.antt`.
 pub fn the_routine_divides()
     ensures bytes { (flash : List ℕ) (at : ℕ) → at % 2 ≡ 0 → at + routine_length ≤ flash_end
