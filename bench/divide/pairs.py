@@ -3,8 +3,9 @@
     pairs.py write SEED COUNT > PAIRS
     pairs.py test PAIRS < ANSWERS
 
-Quotient and remainder are Python's of the magnitudes, with the signs that ECMA-262 gives them, through ToInt32. The instructions are counted along the
-routine's branches: it is a long division, bit by bit from the highest on.
+Quotient and remainder are Python's of the magnitudes, with the signs that ECMA-262 gives them, through ToInt32. The
+instructions are counted along the routine's branches: up to five tests of how many bits the quotient may have, then a
+round for each of 1, 4, 8, 12, 16 or 32 bits.
 """
 import random
 import sys
@@ -27,12 +28,21 @@ def expected(dividend, divisor):
 def instructions(dividend, divisor):
     if divisor == 0:
         return 4
+    rest, divisor_up = abs(dividend), abs(divisor)
+    quotient = rest // divisor_up
     count = 2
     count += 5 if dividend < 0 else 3
     count += 4 if divisor < 0 else 2
     count += 3
-    ones = bin(abs(dividend) // abs(divisor)).count("1")
-    count += 6 * (32 - ones) + 8 * ones
+    for bits in (1, 4, 8, 12, 16):
+        count += 3
+        if rest >> bits < divisor_up:
+            break
+    else:
+        bits = 32
+        count += 2
+    count += sum(6 if quotient >> place & 1 else 4 for place in range(1, bits))
+    count += 4 if quotient & 1 else 3
     count += 4 if dividend < 0 else 3
     count += 6 if (dividend < 0) != (divisor < 0) else 5
     return count
@@ -66,7 +76,7 @@ def test(path):
                 wrong += 1
                 print(f"{dividend} {divisor}: {answer.strip()}, not {due}")
     print(f"divide: {rows} pairs, {wrong} wrong, at most {most} instructions")
-    return wrong == 0 and most <= 280
+    return wrong == 0 and most <= 231
 
 
 if sys.argv[1] == "write":

@@ -1,5 +1,6 @@
 #!/bin/sh
-# Random pairs through the division routine on the machine (tests/thumb_rows, as bin/compile makes it), beside Python's division: quotient, remainder and instructions.
+# Random pairs through the division routine on the machine (tests/thumb_rows, as bin/compile makes it), beside Python's
+# division: quotient, remainder and instructions.
 # usage: bench/divide/run.sh [SEED] [COUNT]
 set -eu
 here=$(cd "$(dirname "$0")" && pwd)

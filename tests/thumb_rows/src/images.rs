@@ -93,7 +93,7 @@ fn write_words(text: &mut String, bytes: &[u8]) -> Result<(), AllocError> {
     Ok(())
 }
 
-/// Writes an image whose division routine is left out where it stands whole, behind its first 40 bytes.
+/// Writes an image whose division routine is left out where it stands whole, after its first 40 bytes, with the zeros up to the next multiple of 4.
 fn write_small(text: &mut String, image: &[u8]) -> io::Result<()> {
     let end = ROUTINE + routine().len();
     if image.len() < end || &image[ROUTINE..end] != routine() {
@@ -101,7 +101,7 @@ fn write_small(text: &mut String, image: &[u8]) -> io::Result<()> {
     }
     write_words(text, &image[..ROUTINE])?;
     text.push_str("the division routine\n")?;
-    write_words(text, &image[end..])?;
+    write_words(text, &image[end.next_multiple_of(4)..])?;
     Ok(())
 }
 
