@@ -15,9 +15,10 @@ use std::io::Write;
 use sts_base::NoMemory;
 
 /// A device that writes each word's low byte to a stream, such as standard error, and tells no log. At the serial port a
-/// word is a byte, so the stream gets the raw serial bytes. Bytes are held back until those of a write end a line, no room is left, or the device
-/// settles: while no write to the stream has failed, all up to a line's end is on it. A write that takes nothing is a fault, and so is every error
-/// but an interruption, after which the write is tried again.
+/// word is a byte, so the stream gets the raw serial bytes. Bytes are held back until a write's last byte is a line's end, no room is left, or the
+/// device settles: a line's end among the bytes of a write, and not the last of them, is held back with them. While no write to the stream has
+/// failed, what is held back ends no line. A write that takes nothing is a fault, and so is every error but an interruption, after which the write
+/// is tried again.
 #[derive(Drop)]
 pub struct EchoDevice<W: Write + Drop> {
     stream: BufferedStream<W>,

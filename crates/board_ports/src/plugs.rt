@@ -1,5 +1,5 @@
 // Devices in their places, and a mark for each port whose device has failed.
-ghost use Rattle.std.specs.Prelude.{◌≡◌, ◌<◌, ◌∷◌, ◌++◌, [], ◌↔◌, ◌⊎◌, List, ℕ, None, true, false};
+ghost use Rattle.std.specs.Prelude.{◌≡◌, ◌<◌, ◌∷◌, ◌++◌, [], ◌↔◌, ◌⊎◌, Bool, List, ℕ, None, true, false, length};
 ghost use Rattle.std.specs.declared.option.Option.{Option};
 ghost use Rattle.board_ports.specs.Logs.{at_moment};
 ghost use Rattle.board_ports.specs.Plugged.{Sends, SendsAll, Settles};
@@ -149,8 +149,25 @@ impl<D: Device> Plugs<D> {
         places
     }
 
-    /// Drops the device at a port, if there is one; it hears before that no more words come, unless the port is marked. The mark and the other
-    /// ports are untouched.
+    /// Takes the device at a port out of its place, if there is one, as no more words come to it: it has let go of what it held back, or its
+    /// count of faults rose, and it was not written to; where the port is marked it is as it was. The mark and the other ports are untouched.
+    fn take_settled(&mut self, port: usize) -> Option<D>
+        requires of_board { port < 4 }
+        requires of_list { port < length self.now.places }
+        ensures settles { (mark : Bool)
+            × Settles D.settled D.account (device_at self.old.places port) (mark_at self.old.marks port) result mark }
+        ensures gone { device_at self.new.places port ≡ None }
+        ensures marks { self.new.marks ≡ self.old.marks }
+        ensures others { OthersStay port self.old self.new }
+    {
+        let mut place = self.places[port].take();
+        let mut mark = self.marks[port];
+        settle_place(&mut place, &mut mark);
+        place
+    }
+
+    /// Drops the device at a port, if there is one, as `take_settled` gives it: it heard before that no more words come, unless the port is
+    /// marked. The mark and the other ports are untouched.
     pub fn unplug(&mut self, port: usize)
         requires { port < 4 }
         ensures gone { device_at self.new.places port ≡ None }
@@ -160,13 +177,8 @@ impl<D: Device> Plugs<D> {
             → FollowsMoves D.account moves start self.old
             → FollowsMoves D.account (moves ++ Unplug port ∷ []) start self.new }
     {
-        if port >= self.places.len() {
-            return;
-        }
-        if let Some(mut device) = self.places[port].take() {
-            if !self.marks[port] {
-                let _ = device.settle();
-            }
+        if port < self.places.len() {
+            drop(self.take_settled(port));
         }
     }
 }

@@ -14,8 +14,8 @@ use sts_base::NoMemory;
 
 /// A stream, such as standard output. Pieces are gathered until one ends a line, or no room is left, and then written in one piece. What it has
 /// taken is what the stream holds and then what is gathered: it tells that where the stream tells, which one of the operating system doesn't.
-/// While no write has failed, all that was taken up to a line's end is on the stream. A write that takes nothing is a fault, and so is every
-/// error but an interruption, after which the write is tried again.
+/// A line's end inside a piece, and not at its end, is gathered with it. While no write has failed, what is gathered ends no line. A write that
+/// takes nothing is a fault, and so is every error but an interruption, after which the write is tried again.
 #[derive(Drop)]
 pub struct StdSink<W: Write + Drop> {
     stream: BufferedStream<W>,
