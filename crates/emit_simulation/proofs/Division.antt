@@ -41,7 +41,7 @@ module _ (flash : List ℕ) (base : ℕ) (p : Places) (pieces : List Piece) (lai
     pub remainder_is : slice_index seen.low 1 ≡ cast_unsigned w32 (remainder (cast_signed w32 w1) (cast_signed w32 w2))
     pub globals : seen.globals ≡ v.globals
     pub arena : seen.arena ≡ v.arena
-    pub comes : Comes (fetched flash base) p 1 282 i (i + 1) v seen s b free
+    pub comes : Comes (fetched flash base) p 1 233 i (i + 1) v seen s b free
 
   pub divided : (i : ℕ) (s : Registers) → slice_get pieces i ≡ Some (CallTo division) → At flash s.sp b → length v.words ≡ length b.words → Divided i s
   divided i s g h l =
@@ -79,7 +79,7 @@ module _ (flash : List ℕ) (base : ℕ) (p : Places) (pieces : List Piece) (lai
             ap (λ n. cast_unsigned w32 (remainder (cast_signed w32 w1) (cast_signed w32 n))) r1);
         globals = refl;
         arena = refl;
-        comes = record { link = q.lr; long = l; reach = subst (λ y. ComesSilently over fetch 1 282 s0 t y t) same m2 };
+        comes = record { link = q.lr; long = l; reach = subst (λ y. ComesSilently over fetch 1 233 s0 t y t) same m2 };
       }
 
 -- THE QUOTIENT, or the remainder, of the words in two registers
@@ -112,7 +112,7 @@ module _ (flash : List ℕ) (base : ℕ) (p : Places) (pieces : List Piece) (lai
   Behind i s = Divided flash base p pieces laid b free at entry routine fits u2 n2 w1 w2 dividend divisor l1 l2 i s
 
   leaves_of : (answer w : ℕ) → answer < 2 → ((i : ℕ) (s : Registers) (y : Behind i s) → slice_index y.seen.low answer ≡ w)
-      → Leaves (fetched flash base) flash p pieces laid b free v low (divides fn d left right answer) d w 291
+      → Leaves (fetched flash base) flash p pieces laid b free v low (divides fn d left right answer) d w 242
   leaves_of answer w la is i s st h l =
       let fetch = fetched flash base in
       let xs = carries fn 0 left ∷ (carries fn 1 right ∷ []) in
@@ -132,9 +132,9 @@ module _ (flash : List ℕ) (base : ℕ) (p : Places) (pieces : List Piece) (lai
       let n3 = y.low' in
       let c3 = flows_one fetch flash p pieces laid (i + 2 + 1) (carries fn d answer) u3 u4 (record s { lr = c2.link }) b free
       (ap (slice_get pieces) (omega arith) ∙ st 3 (omega arith)) h c2.long (moves_flows flash p fn d answer w u3 (omega arith) (omega arith) x3) in
-      let e1 = then fetch flash p pieces laid 1 282 (step_of (carries fn d answer)) (cost (carries fn d answer)) (i + 2) (i + 2 + 1) (i + 2 + 1 + 1) u2 u3 u4
+      let e1 = then fetch flash p pieces laid 1 233 (step_of (carries fn d answer)) (cost (carries fn d answer)) (i + 2) (i + 2 + 1) (i + 2 + 1 + 1) u2 u3 u4
       (record s { lr = c1.link }) b free c2 c3 in
-      let e2 = then fetch flash p pieces laid (steps_of xs) (total_cost xs) (1 + step_of (carries fn d answer)) (282 + cost (carries fn d answer)) i (i + 2) (i + 2 + 1 + 1)
+      let e2 = then fetch flash p pieces laid (steps_of xs) (total_cost xs) (1 + step_of (carries fn d answer)) (233 + cost (carries fn d answer)) i (i + 2) (i + 2 + 1 + 1)
       v u2 u4 s b free c1 e1 in
       let z : i + 2 + 1 + 1 ≡ i + 4 = omega arith in
       let ta = moves_takes fn 0 left in let tb = moves_takes fn 1 right in let tc = moves_takes fn d answer in
@@ -150,7 +150,7 @@ module _ (flash : List ℕ) (base : ℕ) (p : Places) (pieces : List Piece) (lai
         };
         globals = y.globals;
         arena = y.arena;
-        comes = subst (λ j. Comes fetch p 1 291 i j v u4 s b free) z (record {
+        comes = subst (λ j. Comes fetch p 1 242 i j v u4 s b free) z (record {
           link = e2.link;
           long = e2.long;
           reach = record { count = r.count; some = omega arith; few = omega arith; silent = r.silent };
@@ -158,9 +158,9 @@ module _ (flash : List ℕ) (base : ℕ) (p : Places) (pieces : List Piece) (lai
       }
 
   pub quotient_leaves : Leaves (fetched flash base) flash p pieces laid b free v low (divides fn d left right 0) d
-      (cast_unsigned w32 (quotient (cast_signed w32 w1) (cast_signed w32 w2))) 291
+      (cast_unsigned w32 (quotient (cast_signed w32 w1) (cast_signed w32 w2))) 242
   quotient_leaves = leaves_of 0 _ (omega arith) (λ i s y. y.quotient_is)
 
   pub remainder_leaves : Leaves (fetched flash base) flash p pieces laid b free v low (divides fn d left right 1) d
-      (cast_unsigned w32 (remainder (cast_signed w32 w1) (cast_signed w32 w2))) 291
+      (cast_unsigned w32 (remainder (cast_signed w32 w1) (cast_signed w32 w2))) 242
   remainder_leaves = leaves_of 1 _ (omega arith) (λ i s y. y.remainder_is)

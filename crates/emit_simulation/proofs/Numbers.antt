@@ -228,7 +228,7 @@ module _ (C : FlatCode) (placed : List Placed) (flash : List ℕ) (a : Addresses
         (are_words C placed flash a texts image) flags op (f.temps left) (f.temps right) w1 w2 m1 m2) in
         let ca = still_takes fn (brings fn 0 pa) (brings_still fn 0 pa) in let cb = still_takes fn (brings fn 1 pb) (brings_still fn 1 pb) in
         by_outcome (operated flags op w1 w2) flags o lw nf
-        (λ value m. computed_gives p f callers base c used h t o' e x sh to value (operated flags op w1 w2) 291
+        (λ value m. computed_gives p f callers base c used h t o' e x sh to value (operated flags op w1 w2) 242
         (brings fn 0 pa ∷ (brings fn 1 pb ∷ [])) (binary fn d ra rb op (3 * f.place + 1)) u2 refl (
           u1,
           brings_word C placed flash a texts image p f callers base c used h t o' e x sh left 0 v ll (0, omega arith, refl) (omega arith) refl,

@@ -254,7 +254,7 @@ module _ (fetch : ℕ → Fetched) (flash : List ℕ) (p : Places) (pieces : Lis
     module _ (w1 w2 left right : ℕ) (r0 : slice_index v.low left ≡ w1) (r1 : slice_index v.low right ≡ w2) (fl : left < 8) (fr : right < 8)
         (nl : 2 ≡ left → ⊥) (nr : 2 ≡ right → ⊥) where
       abbrev pub Of : List Piece → ℕ → Type 0
-      Of xs n = Leaves xs d n 291
+      Of xs n = Leaves xs d n 242
 
       -- the flags before a shift
       abbrev pub shift_flags : ℕ
@@ -276,7 +276,7 @@ module _ (fetch : ℕ → Fetched) (flash : List ℕ) (p : Places) (pieces : Lis
             | inl e ↦ nl (sym e ∙ q)
             | inr e ↦ beside_other 2 d left nl (sym e ∙ q)
           ] in
-          leaves_more _ d _ 11 291 (omega arith) (leaves_test by c label (sum_flags w1 (inverted w2) 1) (CmpReg left right)
+          leaves_more _ d _ 11 242 (omega arith) (leaves_test by c label (sum_flags w1 (inverted w2) 1) (CmpReg left right)
           (beside_low 2 inner right (omega arith) (beside_low 2 d left (omega arith) fd)) kind n refl
           (λ m e. Quiet (CmpReg left right) m m.low (sum_flags w1 (inverted w2) 1) (λ next pc s. (
           let k0 : slice_index m.low left ≡ w1 = ap (λ l. slice_index l left) e ∙ (get_or-set_other v.low by left 1 0 (λ z. not_left (sym z)) ∙ r0) in
@@ -285,7 +285,7 @@ module _ (fetch : ℕ → Fetched) (flash : List ℕ) (p : Places) (pieces : Lis
           (holds (sum_flags w1 (inverted w2) 1) c) refl)
 
       one : (x : Instr) (w fl : ℕ) → Alters flash x v (record v { low = slice_set v.low d w; flags = fl }) → goes_on_instr x ≡ true → Of (Plain x ∷ []) w
-      one x w fl q g = leaves_more _ d _ 2 291 (omega arith) (leaves_one x w fl q g)
+      one x w fl q g = leaves_more _ d _ 2 242 (omega arith) (leaves_one x w fl q g)
 
       -- an instruction whose target is its first operand
       combined_leaves : (x : ℕ → ℕ → Instr) (w : ℕ) → ((a k : ℕ) → goes_on_instr (x a k) ≡ true)
@@ -307,7 +307,7 @@ module _ (fetch : ℕ → Fetched) (flash : List ℕ) (p : Places) (pieces : Lis
           let u3 = moved d t w u2 in
           let xs = combines fn d left right x in
           let ta = moves_takes fn t left in let tb = moves_takes fn d t in
-          leaves_more xs d w (total_cost xs) 291 (omega arith) (leaves_straight xs d w u3 (omega arith) (
+          leaves_more xs d w (total_cost xs) 242 (omega arith) (leaves_straight xs d w u3 (omega arith) (
             u1,
             moves_flows flash p fn t left w1 v (omega arith) (omega arith) r0,
             (u2, OfInstr (x t right) u1 u2 (g t right) dx.1, (u3, moves_flows flash p fn d t w u2 (omega arith) (omega arith) x2, refl)),
@@ -344,7 +344,7 @@ module _ (fetch : ℕ → Fetched) (flash : List ℕ) (p : Places) (pieces : Lis
           (Quiet (And 2 right) u1 (slice_set u1.low 2 (bit_and 31 w2)) (nz u1.flags (bit_and 31 w2)) (λ next pc s. rw k1 (rw k2 refl))) in
           let xs = shifts fn d left right x in
           let ta = moves_takes fn d left in
-          leaves_more xs d w (total_cost xs) 291 (omega arith) (leaves_straight xs d w u4 (omega arith) (
+          leaves_more xs d w (total_cost xs) 242 (omega arith) (leaves_straight xs d w u4 (omega arith) (
             u1,
             OfInstr (MovImm 2 31) v u1 refl (Quiet (MovImm 2 31) v (slice_set v.low 2 31) (nz v.flags 31) (λ next pc s. refl)),
             (
