@@ -21,16 +21,21 @@ def refusals(texts):
     return told
 
 
-def explained(asked):
-    """The sentence, the example and the open bracket of each text at a place, by input_rows."""
+def answered(asked):
+    """What input_rows writes of each row."""
     # (a file, since of a pipe the program reads a byte at a time)
     with tempfile.TemporaryFile() as lines:
-        lines.write("".join(f"hint {place} {text.hex()}\n" for place, text in asked).encode())
+        lines.write("".join(f"{row}\n" for row in asked).encode())
         lines.seek(0)
         out = subprocess.run([rows], stdin=lines, stdout=subprocess.PIPE, check=True).stdout.decode()
-    answers = [line.split("\t") for line in out.splitlines()]
+    answers = out.splitlines()
     assert len(answers) == len(asked)
     return answers
+
+
+def explained(asked):
+    """The sentence, the example and the open bracket of each text at a place, by input_rows."""
+    return [line.split("\t") for line in answered([f"hint {place} {text.hex()}" for place, text in asked])]
 
 
 # The tries.
@@ -52,6 +57,30 @@ for (text, place, sentence), (said, _, opened) in zip(tries, explained([(" ".joi
         wrong.append(f"{text!r}: the bracket at {opened} in place of {' '.join(place[3:]) or '-'}")
 if len(tries) < 60:
     wrong.append(f"{len(tries)} tries")
+
+# Scripts, class files and arrivals: the code of sts, and the line and the sentence of input_hints.
+inputs = []
+with open(f"{top}/checks/inputs.txt", encoding="utf-8") as file:
+    lines = [line for line in file.read().split("\n") if line and not line.startswith("#")]
+for at in range(0, len(lines), 3):
+    text, place, sentence = lines[at : at + 3]
+    found = re.fullmatch(r"> (script|class|arrivals) (.*)", text)
+    assert found and re.fullmatch(r"\d+ \d+", place), text
+    inputs.append((found[1], re.sub(r"\\n", "\n", found[2]).encode(), place.split(), sentence))
+words_of = {"script": ["run", f"{top}/examples/hello.ts"], "class": ["class"], "arrivals": ["run-at", f"{top}/examples/arrivals/polling.ts", f"{top}/examples/arrivals/polling.json"]}
+for number, (kind, text, (code, _), _) in enumerate(inputs):
+    name = f"{folder.name}/{number}.json"
+    with open(name, "wb") as file:
+        file.write(text)
+    told = subprocess.run([program, *words_of[kind], name], stdout=subprocess.PIPE, stderr=subprocess.DEVNULL, check=False).stdout.decode().strip()
+    if told != f"{kind} refused {code}":
+        wrong.append(f"{text!r}: sts tells {told} in place of {kind} refused {code}")
+for (kind, text, (_, line), sentence), said in zip(inputs, answered([f"fault {kind} {text.hex()}" for kind, text, _, _ in inputs])):
+    if said != f"{line}\t{sentence}":
+        wrong.append(f"{text!r}: {said!r} in place of {line}: {sentence!r}")
+of_kind = {kind: sum(1 for it in inputs if it[0] == kind) for kind in words_of}
+if of_kind["script"] < 30 or of_kind["class"] < 15 or of_kind["arrivals"] < 10:
+    wrong.append(f"files: {of_kind}")
 
 # The code's own sentences, at a place where no row fits, are those of docs/LANGUAGE.md: the first row of each code in its tables, what the text is and what to change.
 with open(f"{top}/docs/LANGUAGE.md", encoding="utf-8") as file:
@@ -112,5 +141,5 @@ for (place, text), answer in zip(asked, explained(asked)):
 
 for line in wrong:
     print(f"hints: {line}")
-print(f"hints: {len(tries)} tries, {len(calls)} calls, {len(members)} members that are not here, {len(examples)} examples, {len(said['sentence'])} sentences, {len(asked)} places of any texts, {len(wrong)} wrong")
+print(f"hints: {len(tries)} tries, {len(inputs)} files, {len(calls)} calls, {len(members)} members that are not here, {len(examples)} examples, {len(said['sentence'])} sentences, {len(asked)} places of any texts, {len(wrong)} wrong")
 sys.exit(1 if wrong else 0)

@@ -1,5 +1,6 @@
 //! Tests alone: reads rows, and writes what each is answered with. README.md has the rows' forms; every other line is written as it stands.
 
+mod faults;
 mod files;
 mod hints;
 mod rows;

@@ -1,5 +1,6 @@
 // One row, and its answer.
 
+use crate::faults::write_fault;
 use crate::files::write_file;
 use crate::hints::write_hint;
 use crate::words::write_words;
@@ -13,6 +14,7 @@ fn write_answer(alloc: Global, text: &mut String, row: &str) -> io::Result<()> {
     }
     match row.split_once(' ') {
         Some(("hint", asked)) => write_hint(alloc, text, asked),
+        Some(("fault", asked)) => write_fault(alloc, text, asked),
         Some((kind @ ("class" | "script" | "arrivals"), file)) => write_file(
             alloc, text, kind, file,
         ),
