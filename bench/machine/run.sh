@@ -19,8 +19,8 @@ PY
 "${CC:-cc}" -O2 -o "$work/interpreter" "$here/interpreter.c"
 program() { "$here/../program.sh" "$work/$1" "$here/$1.txt" "${@:2}"; }
 machine=$(program main "armv6m_machine anyhow" sts_base thumb_code armv6m_machine)
-board=$(program board "sts_base tool_io board_ports event_script board_run anyhow" sts_base thumb_code board_world tool_io board_ports bank_model \
-    armv6m_machine board_outside arena_heap fiber_queues message_bus fiber_pool fiber_runtime thumb_layout thumb_switch fork_on_block board_drivers event_script board_run)
+board=$(program board "sts_base tool_io board_ports event_script board_run anyhow" sts_base buffered_stream thumb_code board_services board_world \
+    class_world tool_io board_ports bank_model armv6m_machine board_outside arena_heap fiber_queues message_bus fiber_pool fiber_runtime thumb_layout thumb_switch fork_on_block board_drivers event_script board_run)
 TIMEFORMAT=%U
 timed() { { time "${@:2}" >/dev/null; } 2>>"$work/$1.seconds"; }
 for _ in $(seq "$rounds"); do
