@@ -3,6 +3,7 @@ use Rattle.std.proofs.Common.{◌≡◌, List, [], ◌∷◌, refl, ◌∙◌, B
 use Rattle.thumb_code.specs.declared.register_file.Registers.{Registers}
 use Rattle.thumb_code.specs.Forms.{Access, Effect}
 use Rattle.thumb_code.specs.Memory.{Executed, Done, Asked, Stopped, execute, load_all}
+use Rattle.thumb_code.specs.Table.{half, is_two}
 use Rattle.thumb_code.specs.Step.{Stepped, On, Served, Faulted, stepped_at, behind, fetched, Found}
 use Rattle.thumb_code.specs.Effect.{effect}
 use Rattle.thumb_code.specs.declared.instructions.Instr.{Instr}
@@ -38,6 +39,12 @@ does_step e turn old new h = turn_step (execute ram_memory old.memory e) e turn 
 pub fetched_step : (old : State) (i : Instr) (wide : Bool) (turn : Turn) (r : Registers) (m : Ram) → fetched old.memory.flash old.memory.base old.registers.pc ≡ Found i (behind old.registers.pc wide)
     → Does ram_memory old.memory (effect (behind old.registers.pc wide) old.registers i) turn old.registers r m → IsStep (step old) turn old (record { registers = r; memory = m })
 fetched_step old i wide turn r m e h = rw e (does_step (effect (behind old.registers.pc wide) old.registers i) turn old (record { registers = r; memory = m }) h)
+
+-- The same where the address behind it is told by the instruction.
+pub at_pc_step : (old : State) (i : Instr) (wide : Bool) (turn : Turn) (r : Registers) (m : Ram) → fetched old.memory.flash old.memory.base old.registers.pc ≡ Found i (behind old.registers.pc wide)
+    → wide ≡ is_two (half i) → Does ram_memory old.memory (effect (behind old.registers.pc (is_two (half i))) old.registers i) turn old.registers r m
+    → IsStep (step old) turn old (record { registers = r; memory = m })
+at_pc_step old i wide turn r m e p h = fetched_step old i wide turn r m e (rw p h)
 
 -- A step that is a fault leaves the machine as it was.
 pub fault_leaves : (x : Stepped Ram) (turn : Turn) (old new : State) → IsStep x turn old new → IsFault turn → new ≡ old

@@ -1,6 +1,6 @@
 //! One instruction over any memory.
 ghost use Rattle.std.specs.Prelude.{◌≡◌, ◌<◌, if◌then◌else◌};
-ghost use Rattle.thumb_code.specs.Table.{Fits};
+ghost use Rattle.thumb_code.specs.Table.{Fits, half, is_two};
 ghost use Rattle.thumb_code.specs.Effect.{effect};
 ghost use Rattle.thumb_code.specs.Step.{behind};
 ghost use Rattle.armv6m_machine.specs.Steps.{Does};
@@ -29,7 +29,25 @@ pub fn execute<M: Memory>(
     ensures flags { registers.old.flags < 16 → registers.new.flags < 16 }
 {
     let next = registers.pc.wrapping_add(size(wide));
-    by_row(instr, next, registers, memory)
+    by_row(instr, (next, next), registers, memory)
+}
+
+/// Executes an instruction that stands at PC.
+#[inline(always)]
+pub fn execute_at_pc<M: Memory>(instr: Instr, registers: &mut Registers, memory: &mut M) -> Turn
+    requires { Fits instr }
+    ensures row { Does M.memory memory.old
+        (effect (behind registers.old.pc (is_two (half instr))) registers.old instr) result
+        registers.old registers.new memory.new }
+    ensures flags { registers.old.flags < 16 → registers.new.flags < 16 }
+{
+    let pc = registers.pc;
+    by_row(
+        instr,
+        (pc.wrapping_add(2), pc.wrapping_add(4)),
+        registers,
+        memory,
+    )
 }
 
 /// The bytes of an instruction.
@@ -39,12 +57,17 @@ fn size(wide: bool) -> u32
     if wide { 4 } else { 2 }
 }
 
-/// The table: each of the commonest instructions in the form of its row, and the others by their groups.
-fn by_row<M: Memory>(instr: Instr, next: u32, s: &mut Registers, m: &mut M) -> Turn
+/// The table: each of the commonest instructions in the form of its row, and the others by their groups. The address
+/// after the instruction is the second of `ends` for BL, which is two halfwords, and the first for each other: both are
+/// known before the instruction is.
+#[inline(always)]
+fn by_row<M: Memory>(instr: Instr, ends: (u32, u32), s: &mut Registers, m: &mut M) -> Turn
     requires { Fits instr }
-    ensures row { Does M.memory m.old (effect next s.old instr) result s.old s.new m.new }
+    ensures row { Does M.memory m.old
+        (effect (if is_two (half instr) then ends.1 else ends.0) s.old instr) result s.old s.new m.new }
     ensures flags { s.old.flags < 16 → s.new.flags < 16 }
 {
+    let (next, after_two) = ends;
     match instr {
         Instr::AddReg { rd, rn, rm } => adds(m, s, next, rd, (low(s, rn), low(s, rm)), 0),
         Instr::CmpImm { rd, imm } => compares(m, s, next, low(s, rd), u32::from(imm)),
@@ -107,9 +130,8 @@ fn by_row<M: Memory>(instr: Instr, next: u32, s: &mut Registers, m: &mut M) -> T
         | Instr::StrhImm { .. } => execute_store(instr, next, s, m),
         Instr::Push { .. } | Instr::Pop { .. } | Instr::Stm { .. } | Instr::Ldm { .. } =>
             execute_many(instr, next, s, m),
-        Instr::Bx { .. } | Instr::Blx { .. } | Instr::B { .. } | Instr::Bl { .. } => execute_branch(
-            instr, next, s, m,
-        ),
+        Instr::Bx { .. } | Instr::Blx { .. } | Instr::B { .. } => execute_branch(instr, next, s, m),
+        Instr::Bl { .. } => execute_branch(instr, after_two, s, m),
         Instr::Bkpt { .. }
         | Instr::Nop
         | Instr::Yield

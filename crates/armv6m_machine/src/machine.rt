@@ -7,7 +7,7 @@ ghost use Rattle.thumb_code.specs.Step.{fetched};
 ghost use Rattle.armv6m_machine.specs.Steps.{IsStep, IsFault, IsFetch, IsInstruction};
 ghost use Rattle.armv6m_machine.specs.Words.{word_at, begins_ram_word, with_word};
 
-use crate::execution::execute;
+use crate::execution::execute_at_pc;
 use crate::faults::{Fault, Turn};
 use crate::flash::FLASH_END;
 use crate::mapped_memory::{MappedMemory, is_ram};
@@ -57,7 +57,7 @@ impl Machine {
         ensures flags { self.old.registers.flags < 16 → self.new.registers.flags < 16 }
     {
         match self.fetch() {
-            Ok((instr, wide)) => execute(instr, wide, &mut self.registers, &mut self.memory),
+            Ok(found) => execute_at_pc(found.0, &mut self.registers, &mut self.memory),
             Err((fault, at)) => Turn::Fault(fault, at),
         }
     }
