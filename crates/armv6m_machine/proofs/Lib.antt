@@ -6,3 +6,4 @@ pub mod TurnSteps
 pub mod StackPointer
 pub mod Bytes
 pub mod Slots
+pub mod Flags

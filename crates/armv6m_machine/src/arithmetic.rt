@@ -1,5 +1,5 @@
 //! Sums and shifts with the flags that they set, and conditions (ARM DDI 0419, A2.2.1 and A6.3).
-ghost use Rattle.std.specs.Prelude.{◌≡◌, ◌+◌, ◌*◌, ◌/◌, ◌%◌, ◌^◌, ◌<◌, ◌≤◌, nat_lt};
+ghost use Rattle.std.specs.Prelude.{◌≡◌, ◌==◌, ◌+◌, ◌*◌, ◌/◌, ◌%◌, ◌^◌, ◌<◌, ◌≤◌, ℕ, nat_lt};
 ghost use Rattle.thumb_code.specs.Arithmetic.{sum_of, sum_flags, nz as flags_of_word, nzc as flags_of_shift, lsl as lsl_of, lsr as lsr_of, asr as asr_of, ror as ror_of, signed as extended, swapped as exchanged, shifted, holds as condition_holds};
 
 /// A sum with a carry in, and its flags.
@@ -184,24 +184,29 @@ pub fn holds(flags: u8, cond: u8) -> bool
     requires { cond < 14 }
     ensures { result ≡ condition_holds flags cond }
 {
-    let n = flags / 8 % 2 == 1;
-    let z = flags / 4 % 2 == 1;
-    let c = flags / 2 % 2 == 1;
-    let v = flags % 2 == 1;
+    (flags_for(cond) >> (flags % 16)) % 2 == 1
+}
+
+/// The flags with which a condition holds: bit k is 1 where it holds with the flags k.
+#[inline(always)]
+fn flags_for(cond: u8) -> u16
+    requires { cond < 14 }
+    ensures { (k : ℕ) → k < 16 → (result / 2 ^ k % 2 == 1) ≡ condition_holds k cond }
+{
     match cond {
-        0 => z,
-        1 => !z,
-        2 => c,
-        3 => !c,
-        4 => n,
-        5 => !n,
-        6 => v,
-        7 => !v,
-        8 => c && !z,
-        9 => !(c && !z),
-        10 => n == v,
-        11 => n != v,
-        12 => !z && n == v,
-        _ => !(!z && n == v),
+        0 => 0xf0f0,
+        1 => 0x0f0f,
+        2 => 0xcccc,
+        3 => 0x3333,
+        4 => 0xff00,
+        5 => 0x00ff,
+        6 => 0xaaaa,
+        7 => 0x5555,
+        8 => 0x0c0c,
+        9 => 0xf3f3,
+        10 => 0xaa55,
+        11 => 0x55aa,
+        12 => 0x0a05,
+        _ => 0xf5fa,
     }
 }
