@@ -1,0 +1,3 @@
+mod Ends
+mod Agreeing
+pub mod Laws
