@@ -9,5 +9,5 @@ mod shapes;
 mod verdict;
 
 pub use arrival::{ARRIVAL_LIMIT, Arrival, ArrivalCode, ArrivalRefused};
-pub use shapes::{members_are_exact, rows_are_arrivals, worked_arrivals};
+pub use shapes::{counts_are_limited, members_are_exact, rows_are_arrivals, worked_arrivals};
 pub use verdict::read_arrivals;

@@ -1,5 +1,5 @@
 // The rows of the form: each is read as what it says; and small lists.
-ghost use Rattle.std.specs.Prelude.{◌≡◌, ◌<◌, ◌≤◌, ℕ, List, Some, None, Ok, Err, codes, pos, [], ◌∷◌};
+ghost use Rattle.std.specs.Prelude.{◌≡◌, ◌<◌, ◌≤◌, ℕ, List, length, false, Some, None, Ok, Err, codes, pos, [], ◌∷◌};
 ghost use Rattle.serde_json.specs.Data.{Data, Items, no_items, item};
 ghost use Rattle.event_script.specs.Limits.{greatest_number};
 ghost use Rattle.event_script.specs.Names.{HasExactly};
@@ -7,9 +7,9 @@ ghost use Rattle.event_script.specs.Trees.{items_of};
 ghost use Rattle.event_script.specs.declared.script.Act.TheVariants.{Down, Up, Raise};
 ghost use Rattle.arrival_file.specs.Limits.{greatest_after};
 ghost use Rattle.arrival_file.specs.declared.arrival.Arrival.{Arrival};
-ghost use Rattle.arrival_file.specs.declared.arrival.ArrivalCode.TheVariants.{NotArrivals, OutOfOrder};
+ghost use Rattle.arrival_file.specs.declared.arrival.ArrivalCode.TheVariants.{NotArrivals, OutOfOrder, TooMany};
 ghost use Rattle.arrival_file.specs.Form.{arrival_of, arrivals_of};
-ghost use Rattle.arrival_file.specs.Verdict.{judged_form};
+ghost use Rattle.arrival_file.specs.Verdict.{falls, judged, judged_form};
 ghost use Rattle.arrival_file.specs.Shapes.{press_tree, raise_tree, unplug_tree, arrivals_tree, two, names_of};
 
 /// Each row of the form is an arrival, behind every number of instructions and with every number that it may have; an
@@ -54,4 +54,12 @@ pub fn worked_arrivals()
     ensures too_late { judged_form (arrivals_of (two (raise_tree 1 50 7) (raise_tree 2147483649 50 7)))
         ≡ Err NotArrivals }
     ensures unplugged { judged_form (arrivals_of (two (raise_tree 2 50 7) (unplug_tree 1 1))) ≡ Err NotArrivals }
+{}
+
+/// There are at most 4,096 arrivals.
+pub fn counts_are_limited()
+    ensures within { (arrivals : List Arrival) → falls arrivals ≡ false → length arrivals ≤ 4096
+        → judged arrivals ≡ Ok arrivals }
+    ensures more { (arrivals : List Arrival) → falls arrivals ≡ false → 4096 < length arrivals
+        → judged arrivals ≡ Err TooMany }
 {}

@@ -9,5 +9,5 @@ mod shapes;
 mod verdict;
 
 pub use class::{BOARD_LIMIT, ClassCode, ClassFile, ClassRefused, LOSS_LIMIT, Loss, Names};
-pub use shapes::{members_are_exact, parts_are_classes, worked_classes};
+pub use shapes::{counts_are_limited, members_are_exact, parts_are_classes, worked_classes};
 pub use verdict::read_class;

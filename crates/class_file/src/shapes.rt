@@ -1,5 +1,5 @@
 // The parts of the form: each is read as what it says; and small classes.
-ghost use Rattle.std.specs.Prelude.{◌≡◌, ◌≤◌, ℕ, List, Some, None, Ok, Err, codes, [], ◌∷◌};
+ghost use Rattle.std.specs.Prelude.{◌≡◌, ◌≤◌, ◌<◌, ℕ, List, length, Some, None, Ok, Err, codes, [], ◌∷◌};
 ghost use Rattle.serde_json.specs.Data.{Data, Items, no_items, item};
 ghost use Rattle.board_world.specs.Limits.{end_limit};
 ghost use Rattle.event_script.specs.Names.{HasExactly};
@@ -10,7 +10,7 @@ ghost use Rattle.class_file.specs.declared.class.Names.{Names};
 ghost use Rattle.class_file.specs.declared.class.Loss.{Loss};
 ghost use Rattle.class_file.specs.declared.class.ClassCode.TheVariants.{NotClass, BadCount};
 ghost use Rattle.class_file.specs.Form.{names_of, loss_of, class_of};
-ghost use Rattle.class_file.specs.Verdict.{judged_form};
+ghost use Rattle.class_file.specs.Verdict.{judged, judged_form};
 ghost use Rattle.class_file.specs.Shapes.{names_tree, loss_tree, class_tree};
 ghost use Rattle.class_file.specs.Rows.{alike, one_loss, class_of_boards, read_of_boards, with_more};
 
@@ -44,9 +44,21 @@ pub fn worked_classes()
     ensures nine { judged_form (class_of (class_of_boards 9)) ≡ Err BadCount }
     ensures latest { judged_form (class_of (class_tree 1073741824 (alike 1) no_items)) ≡ Ok (record { end = 1073741824; boards = record { program = codes "p.ts"; script = codes "s.json" } ∷ []; lose = [] }) }
     ensures too_late { judged_form (class_of (class_tree 1073741825 (alike 1) no_items)) ≡ Err NotClass }
+    ensures last_board { judged_form (class_of (class_tree 1000 (alike 1) (item (loss_tree 0 7 7) no_items)))
+        ≡ Ok (record { end = 1000; boards = record { program = codes "p.ts"; script = codes "s.json" } ∷ []; lose = record { at = 0; «from» = 7; to = 7 } ∷ [] }) }
     ensures no_such_board { judged_form (class_of (class_tree 1000 (alike 1) (item (loss_tree 0 0 8) no_items)))
         ≡ Err NotClass }
     ensures more { judged_form (class_of with_more) ≡ Err NotClass }
+    ensures no_such_sender { judged_form (class_of (class_tree 1000 (alike 1) (item (loss_tree 0 8 0) no_items)))
+        ≡ Err NotClass }
     ensures form_before_count { judged_form (class_of (class_tree 1000 no_items (item (loss_tree 0 8 0) no_items)))
         ≡ Err NotClass }
+{}
+
+/// A class has one board to eight, and at most 4,096 losses.
+pub fn counts_are_limited()
+    ensures within { (c : ClassFile) → 1 ≤ length c.boards → length c.boards ≤ 8 → length c.lose ≤ 4096
+        → judged c ≡ Ok c }
+    ensures boards { (c : ClassFile) → 8 < length c.boards → judged c ≡ Err BadCount }
+    ensures losses { (c : ClassFile) → 4096 < length c.lose → judged c ≡ Err BadCount }
 {}
