@@ -4,7 +4,7 @@ ghost use Rattle.std.specs.IoError.{error_kind};
 ghost use Rattle.std.specs.Io.{ReadsAtMost};
 ghost use Rattle.std.specs.Io.KnownBytes.{Consumes, IsAtEnd, Keeps};
 ghost use Rattle.tool_folder.specs.Fetching.{IsFoundOf, IsWithinLimit};
-ghost use Rattle.tool_folder.specs.Reading.{Gathers, ReadsUpTo};
+ghost use Rattle.tool_folder.specs.Reading.{Gathers, ReadsUpTo, most_tries};
 
 use crate::Found;
 use std::alloc::Global;
@@ -14,8 +14,12 @@ use std::io::{ErrorKind, Read};
 /// The most bytes of one read.
 const PIECE: usize = 4096;
 
-/// How often a read that is interrupted is tried again.
-const TRIES: u32 = 1_048_576;
+/// How often a read is tried that is interrupted each time.
+fn tries() -> u32
+    ensures { result ≡ most_tries }
+{
+    1_048_576
+}
 
 /// The error of a reader that never comes to an end.
 fn too_many_reads() -> io::Error
@@ -24,7 +28,7 @@ fn too_many_reads() -> io::Error
     io::Error::new(ErrorKind::Other, "too many reads")
 }
 
-/// One read, which is tried again where it is interrupted, up to 1,048,576 times.
+/// One read, which is tried again where it is interrupted, `tries` times in all.
 fn read_piece<F: Read>(file: &mut F, piece: &mut [u8]) -> io::Result<usize>
     ensures bound { ReadsAtMost result piece.new }
     ensures within { length piece.new ≡ length piece.old }
@@ -34,7 +38,7 @@ fn read_piece<F: Read>(file: &mut F, piece: &mut [u8]) -> io::Result<usize>
     ensures nothing { OnErr result (Keeps (F.remaining file.old) (F.remaining file.new)) }
     ensures retried { IfErr result (λ error. error_kind error ≢ ErrorKind.Interrupted) }
 {
-    'reading: for _ in 0..TRIES {
+    'reading: for _ in 0..tries() {
         match file.read(piece) {
             Ok(count) => return Ok(count),
             Err(error) if error.kind() == ErrorKind::Interrupted => continue 'reading,
