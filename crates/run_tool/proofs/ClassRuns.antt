@@ -72,7 +72,7 @@ module _ (before mid now : ToldFiles) (until : ℕ) (was : IsOnward before now) 
         ends = h.ends;
       } in
       let fits : vec_len h.image ≤ flash_end = (let room = b.room in search rules) in
-      let made : IsBuiltAs board (record { image = h.image.items; script = h.script }) = record { is_image = h.flashed; implements = b.implements; script = refl } in
+      let made : IsBuiltAs board (record { image = h.image.items; script = h.script }) = record { is_image = h.flashed; built = b.built; script = refl } in
       let as_many : length old.scripts.items ≡ length old.images.items = r.can_run.as_many in
       let setups : setups_of new.images.items new.scripts.items ≡ setups_of old.images.items old.scripts.items ++ record { image = h.image.items; script = h.script } ∷ [] =
       ap (λ (xs : List (Vec ℕ Global)). setups_of xs new.scripts.items) h.images ∙ ap (λ (ys : List Script). setups_of (old.images.items ++ h.image ∷ []) ys) h.scripts
@@ -132,7 +132,7 @@ module _ (before mid now : ToldFiles) (until : ℕ) (was : IsOnward before now) 
 
 -- a board's source and its image
 member-implements : (s : BoardSource) (setup : Setup) (free : List ℕ) → IsBuiltAs s setup → MemberImplements instructions_of_a_step (source_member s) (member_of setup free)
-member-implements s setup free m = record { implements = m.implements free; script = ap (λ (x : Script). world_entries x.entries) (sym m.script) }
+member-implements s setup free m = record { implements = m.built.implements free; script = ap (λ (x : Script). world_entries x.entries) (sym m.script) }
 
 members-implement : (sources : List BoardSource) (setups : List Setup) (frees : List (List ℕ)) → Paired IsBuiltAs sources setups → Paired (MemberImplements instructions_of_a_step) (map source_member sources) (members_of setups frees)
 members-implement [] [] frees p = tt

@@ -136,7 +136,7 @@ program-status : (P : TypedProgram) (texts : List ByteList) (script : Script) (b
     → of_program (status_of answer) ≡ true
 program-status P texts script budget stats image answer r =
     let sound : EndsByNoFault (source_after P texts script r.steps).board.end =
-    subst (λ (b : Board). EndsByNoFault b.end) (sym r.reaches.board) (faultless P texts r.image r.implements script r.free r.executed) in
+    subst (λ (b : Board). EndsByNoFault b.end) (sym r.reaches.board) (faultless P texts r.image r.built.implements script r.free r.executed) in
     ap (λ a. of_program (status_of a)) r.is ∙ program-of (source_after P texts script r.steps).board.end sound
 
 at-status : (P : TypedProgram) (texts : List ByteList) (script : Script) (come : List Arrival) (budget : ℕ) (answer : Answer) → RunsProgramAt P texts script come budget answer → of_program (status_of answer) ≡ true

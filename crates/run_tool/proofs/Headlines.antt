@@ -215,7 +215,7 @@ module _ {B : Type 0} (sink : OfSink) (devices : OfDevices B) (t : AskedRun) (nu
           met = places_as devices.account (entries_at (port_moves r.moves)) (entries_at (all_sent b.seen)) (unplugged_at (port_moves r.moves)) (is_unplugged b.unplugged) devices.before devices.after
               (λ k. ap (λ seen. entries_at (all_sent seen) k) r.met.seen ∙ words-met r.moves k) (λ k. ap (λ us. is_unplugged us k) r.met.unplugged ∙ unplugs-met 0 r.moves k) moved;
         },
-        record { is_image = r.is_image; implements = r.implements; free = r.free; is_executed = r.reaches.is_executed; board = r.reaches.board },
+        record { is_image = r.is_image; built = r.built; free = r.free; is_executed = r.reaches.is_executed; board = r.reaches.board },
       )
 
   -- there was no memory

@@ -18,3 +18,4 @@ mod ClassStatuses
 mod ToldClass
 mod Wanting
 mod WantedReadings
+mod EndsBuilt

@@ -16,7 +16,7 @@ use Rattle.board_outside.specs.Cuts.{IsDue}
 use Rattle.hex_image.specs.Laws.{IsImage}
 use Rattle.hex_image.specs.Writing.{hextext}
 use Rattle.sts_syntax.specs.TypedTrees.{TypedProgram}
-use Rattle.sts_implements.specs.Images.{ImageImplements}
+use Rattle.sts_whole.specs.Compiled.{IsBuiltFor}
 use Rattle.event_script.specs.declared.script.Script.{Script as ReadScript}
 use Rattle.board_run.specs.declared.board.Stats.{Stats}
 use Rattle.board_run.specs.declared.end.End.{End}
@@ -52,7 +52,7 @@ behind-both true true s hex e f = refl
 behind-both false also s hex e f = absurd cc
 behind-both true false s hex e f = absurd cc
 
-module _ (P : TypedProgram) (texts : List ByteList) (image : List ℕ) (is_image : IsImage image) (implements : ImageImplements P texts image) (script : ReadScript) (budget : ℕ) (stats with_image : Bool) where
+module _ (P : TypedProgram) (texts : List ByteList) (image : List ℕ) (is_image : IsImage image) (implements : IsBuiltFor P texts image) (script : ReadScript) (budget : ℕ) (stats with_image : Bool) where
   -- the answer by the board on which the run stands
   abbrev answer_on : Board → ℕ → List Move → Answer
   answer_on b executed moves = runs (run_status b.end) moves (closing_line b.clock b.end ++ asked_behind stats with_image b executed image)
@@ -60,11 +60,11 @@ module _ (P : TypedProgram) (texts : List ByteList) (image : List ℕ) (is_image
   answers : (free : List ℕ) (executed : ℕ) (moves : List Move) → IsExecuted (world_after image script free) budget executed → HasMet moves (world_after image script free executed).board
       → RunsProgram P texts script budget stats with_image (answer_on (world_after image script free executed).board executed moves)
   answers free executed moves e met =
-      let s = reaches P texts image implements script free budget executed e in
+      let s = reaches P texts image implements.implements script free budget executed e in
       record {
         image = image;
         is_image = is_image;
-        implements = implements;
+        built = implements;
         free = free;
         executed = executed;
         steps = s.0;
@@ -77,9 +77,9 @@ module _ (P : TypedProgram) (texts : List ByteList) (image : List ℕ) (is_image
   -- there is an answer
   pub some-run : (answer : Answer) × RunsProgram P texts script budget stats with_image answer
   some-run =
-      let m = run_exists P texts image implements script [] budget in (
+      let m = run_exists P texts image implements.implements script [] budget in (
         answer_on (source_after P texts script m.steps).board m.executed m.moves,
-        record { image = image; is_image = is_image; implements = implements; free = []; executed = m.executed; steps = m.steps; reaches = m.reaches; moves = m.moves; met = m.met; is = refl },
+        record { image = image; is_image = is_image; built = implements; free = []; executed = m.executed; steps = m.steps; reaches = m.reaches; moves = m.moves; met = m.met; is = refl },
       )
 
   counted-same : (s : Stats) (b : Board) (executed : ℕ) (hex : List ℕ) → s ≡ counted_on b executed → (with_image ≡ true → hex ≡ hextext image)
@@ -183,7 +183,7 @@ module _ (P : TypedProgram) (texts : List ByteList) (image : List ℕ) (is_image
         })
 
     never-faulted : (kind address : ℕ) (s : Stats) → RunsTo account image script budget (outside_of taken faults old places) (outside_of taken faults between places') (Some (Faulted kind address)) s → ⊥
-    never-faulted kind address s r = subst (λ e. EndsByNoFault e) r.ended (faultless P texts image implements script r.free r.executed)
+    never-faulted kind address s r = subst (λ e. EndsByNoFault e) r.ended (faultless P texts image implements.implements script r.free r.executed)
 
     -- what a call that ran the image answered, with what is asked for behind it
     pub finished : (end : End) (s : Stats) (hex : List ℕ) (ending : Ending) → (with_image ≡ true → hex ≡ hextext image)

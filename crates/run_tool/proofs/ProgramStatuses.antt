@@ -35,7 +35,7 @@ run-number (Some (Faulted kind address)) number s e = absurd s
 pub program-number : (P : TypedProgram) (texts : List ByteList) (script : Script) (budget : ℕ) (stats image : Bool) (answer : Answer) (number : ℕ) → RunsProgram P texts script budget stats image answer
     → number ≡ number_of answer → IsProgramStatus number
 program-number P texts script budget stats image answer number r e =
-    run-number _ number (subst (λ (b : Board). EndsByNoFault b.end) (sym r.reaches.board) (faultless P texts r.image r.implements script r.free r.executed)) (e ∙ ap number_of r.is)
+    run-number _ number (subst (λ (b : Board). EndsByNoFault b.end) (sym r.reaches.board) (faultless P texts r.image r.built.implements script r.free r.executed)) (e ∙ ap number_of r.is)
 
 module _ (one : OneAnswer) (text : List ℕ) (answers : TypedProgram → List ByteList → Answer → Type 0) (answer : Answer) where
   -- what is accepted isn't refused

@@ -21,7 +21,7 @@ use Rattle.board_run.specs.declared.end.End.{End}
 use Rattle.board_run.specs.declared.end.End.TheVariants as ended
 use Rattle.board_run.specs.Outside.{outside_of}
 use Rattle.hex_image.specs.Laws.{IsImage}
-use Rattle.sts_implements.specs.Images.{ImageImplements}
+use Rattle.sts_whole.specs.Compiled.{IsBuiltFor}
 use Rattle.irq_arrival.specs.SourceRuns.{source_at, RunsSourceTo, CutsSource, RunsSourceAt}
 use Rattle.run_tool.specs.declared.ending.Ending.TheVariants.{Gave, Cut}
 use Rattle.run_tool.specs.declared.fetched.Fetched.TheVariants.{Text}
@@ -79,7 +79,7 @@ module _ (files files' : ToldFiles) (script arrivals : List ℕ) (budget : ℕ) 
 
 -- what a call that ran an image with arrivals answered
 module _ {S B : Type 0} (taken : S → Option (List ℕ)) (faults : S → ℕ) (old new : S) (account : B → Account) (places places' : List (Option B))
-    (P : TypedProgram) (texts : List ByteList) (image : List ℕ) (is_image : IsImage image) (implements : ImageImplements P texts image) (script : Script) (come : List Arrival) (budget : ℕ) (later : faults old ≤ faults new) where
+    (P : TypedProgram) (texts : List ByteList) (image : List ℕ) (is_image : IsImage image) (implements : IsBuiltFor P texts image) (script : Script) (come : List Arrival) (budget : ℕ) (later : faults old ≤ faults new) where
   -- a run that came to its end, or to that of its budget
   gives : (end : Option RunEnd) → RunsSourceTo account P texts image script (world_arrivals come) budget (outside_of taken faults old places) (outside_of taken faults new places') end
       → Concludes (of_sink taken faults old new) (of_devices account places places') [] (RunsProgramAt P texts script come budget) (Gave (run_status end))
@@ -89,7 +89,7 @@ module _ {S B : Type 0} (taken : S → Option (List ℕ)) (faults : S → ℕ) (
       record {
         ends = (
           runs (run_status b.end) r.meets.moves closing,
-          record { image = image; is_image = is_image; implements = implements; meets = r.meets; is = refl },
+          record { image = image; is_image = is_image; built = implements; meets = r.meets; is = refl },
           ap run_status (sym r.ended),
           subst (λ os. Took (taken old) (taken new) (lines os ++ closing)) r.meets.met.seen r.written,
           r.devices,
@@ -106,7 +106,7 @@ module _ {S B : Type 0} (taken : S → Option (List ℕ)) (faults : S → ℕ) (
       record {
         ends = (
           runs (run_status b.end) r.0.meets.moves (closing_line b.clock b.end),
-          record { image = image; is_image = is_image; implements = implements; meets = r.0.meets; is = refl },
+          record { image = image; is_image = is_image; built = implements; meets = r.0.meets; is = refl },
           inr r.0.stopped,
         );
         later = later;

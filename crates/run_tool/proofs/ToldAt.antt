@@ -28,7 +28,7 @@ use Rattle.run_tool.specs.declared.ending.Ending.TheVariants.{Gave, Cut, NoMemor
 use Rattle.run_tool.specs.Files.{Telling, ToldFiles, unfailing}
 use Rattle.run_tool.specs.Answers.{Answer, status_of, status_number, output_of, OfSink, OfDevices, Leaves, CommandEnds, Concludes, ending_number}
 use Rattle.run_tool.specs.Runs.{run_status}
-use Rattle.run_tool.specs.RunAt.{AnswersArrivals, RefusesArrivals, RunsProgramAt, RunsOnScript, RunsOutside, AreTold, WritesAt, HeadlineAt}
+use Rattle.run_tool.specs.RunAt.{AnswersArrivals, RefusesArrivals, RunsProgramAt, RunsOnScript, RunsOutside, AreTold, WritesAt, IsRunOfImageAt, HeadlineAt}
 use Rattle.run_tool.specs.Orders.{MayAnswer, lead_of}
 use Rattle.run_tool.proofs.Completing.{onwards}
 use Rattle.run_tool.proofs.Headlines.{one-tree, file-told, script-told, program-file-told, never}
@@ -76,34 +76,49 @@ module _ (one : OneAnswer) (told : Telling) (name script_name arrivals_name : Li
       over-these answer (file-told (AnswersArrivals (λ list. RunsProgramAt P tables.texts read list budget)) files arrivals_name n.arrivals.0 answer n.arrivals.1 n.arrivals.2.0 never on_it)
 
   module _ {B : Type 0} (sink : OfSink) (devices : OfDevices B) where
+    -- it was written, and is the run of an image
+    abbrev Wrote : ℕ → Type 0
+    Wrote number = (w : WritesAt sink devices P tables.texts read come budget number) × IsRunOfImageAt P tables.texts read come budget w.comes
+
     writes : (answer : Answer) (number : ℕ) → RunsProgramAt P tables.texts read come budget answer → Took sink.taken_before sink.taken_after (output_of answer) → Leaves devices answer → number ≡ status_number (status_of answer)
-        → WritesAt sink devices P tables.texts read come budget number
+        → Wrote number
     writes answer number r took leaves e =
         let b : Board = (source_at P tables.texts read r.meets.places r.meets.steps).board in
-        let status : number ≡ status_number (run_status b.end) = e ∙ ap (λ a. status_number (status_of a)) r.is in
-        record {
-          comes = record {
-            steps = r.meets.steps;
-            places = r.meets.places;
-            moves = r.meets.moves;
-            rises = r.meets.reaches.rises;
-            placed = subst (λ xs. Paired (Placed 512) xs r.meets.places) r.meets.reaches.are_first r.meets.reaches.placed;
-            within = subst (λ (xs : List WorldArrival). AllByRecursion (λ (a : WorldArrival). a.count ≤ budget) xs) r.meets.reaches.are_first (applied-within (λ n. (world_with r.image read.end (world_entries read.entries) (world_arrivals come) r.meets.free n).board) (world_arrivals come) r.meets.executed budget r.meets.reaches.is_executed.within);
-            applies = r.meets.reaches.applies;
-            at_most = r.meets.reaches.at_most;
-            at_least = r.meets.reaches.at_least;
-            met = r.meets.met;
-          };
-          written = subst (λ os. Took sink.taken_before sink.taken_after (lines os ++ closing_line b.clock b.end)) (sym r.meets.met.seen) (subst (λ a. Took sink.taken_before sink.taken_after (output_of a)) r.is took);
-          met = subst (λ a. Leaves devices a) r.is leaves;
-          status = status;
-          ended = run-number b.end number r.meets.faultless status;
-        }
+        let status : number ≡ status_number (run_status b.end) = e ∙ ap (λ a. status_number (status_of a)) r.is in (
+          record {
+            comes = record {
+              steps = r.meets.steps;
+              places = r.meets.places;
+              moves = r.meets.moves;
+              rises = r.meets.reaches.rises;
+              placed = subst (λ xs. Paired (Placed 512) xs r.meets.places) r.meets.reaches.are_first r.meets.reaches.placed;
+              within = subst (λ (xs : List WorldArrival). AllByRecursion (λ (a : WorldArrival). a.count ≤ budget) xs) r.meets.reaches.are_first (applied-within (λ n. (world_with r.image read.end (world_entries read.entries) (world_arrivals come) r.meets.free n).board) (world_arrivals come) r.meets.executed budget r.meets.reaches.is_executed.within);
+              applies = r.meets.reaches.applies;
+              at_most = r.meets.reaches.at_most;
+              at_least = r.meets.reaches.at_least;
+              met = r.meets.met;
+            };
+            written = subst (λ os. Took sink.taken_before sink.taken_after (lines os ++ closing_line b.clock b.end)) (sym r.meets.met.seen) (subst (λ a. Took sink.taken_before sink.taken_after (output_of a)) r.is took);
+            met = subst (λ a. Leaves devices a) r.is leaves;
+            status = status;
+            ended = run-number b.end number r.meets.faultless status;
+          },
+          record {
+            image = r.image;
+            is_image = r.is_image;
+            built = r.built;
+            free = r.meets.free;
+            executed = r.meets.executed;
+            is_executed = r.meets.reaches.is_executed;
+            board = r.meets.reaches.board;
+            came = sym r.meets.reaches.are_first;
+          },
+        )
 
     by-ending : (rose : Type 0) (ending : Ending) (number : ℕ) → number ≡ ending_number ending
         → CommandEnds sink devices [] (MayAnswer (record { told = told; rose = rose }) (Some (run_at name script_name arrivals_name budget))) ending
         → (ending ≡ Cut → Rose sink.faults_before sink.faults_after) → ¬ rose → ¬ Rose sink.faults_before sink.faults_after
-        → ((number ≡ 30) × Took sink.taken_before sink.taken_after [] × (devices.after ≡ devices.before)) ⊎ WritesAt sink devices P tables.texts read come budget number
+        → ((number ≡ 30) × Took sink.taken_before sink.taken_after [] × (devices.after ≡ devices.before)) ⊎ Wrote number
     by-ending rose (Gave given) number e s cut quiet calm =
         inr (writes s.0 number (due s.0 (onwards (record { told = told; rose = rose }) (unfailing told) (Some (run_at name script_name arrivals_name budget)) s.0 (λ file. refl, quiet) s.1)) s.3 s.4 (e ∙ ap status_number s.2))
     by-ending rose Cut number e s cut quiet calm = absurd (calm (cut refl))

@@ -4,6 +4,7 @@ use Rattle.std.specs.Prelude.{Option, Some, Result, Ok}
 use Rattle.sts_base.specs.Faults.{Rose}
 use Rattle.sts_base.specs.declared.tables.Tables.{Tables}
 use Rattle.tool_io.specs.Putting.{Took}
+use Rattle.board_world.specs.Observations.{ByteList}
 use Rattle.board_world.specs.Simulation.{Paired}
 use Rattle.sts_syntax.specs.TypedTrees.{TypedProgram}
 use Rattle.event_script.specs.declared.script.Script.{Script}
@@ -21,7 +22,7 @@ use Rattle.run_tool.specs.declared.ending.Ending.TheVariants.{Gave, Cut, NoMemor
 use Rattle.run_tool.specs.Answers.{Answer, status_of, status_number, output_of, OfSink, OfDevices, Leaves, CommandEnds, Concludes, ending_number}
 use Rattle.run_tool.specs.Files.{Telling, ToldFiles, unfailing}
 use Rattle.run_tool.specs.ClassBoards.{RefusesClass, BoardSource, OverBoardProgram, Unfit, no_script, other_end, IsUnfit, AnswersBoardScript, OverBoardScript, OverBoard, OverBoards}
-use Rattle.run_tool.specs.Class.{RunsClass, RunsFile, RunsClassText, IsToldBoard, IsToldClass, HeadlineClass}
+use Rattle.run_tool.specs.Class.{RunsClass, RunsFile, RunsClassText, IsToldBoard, IsToldClass, Extent, whole, cut, IsClassText, IsRunOfImages, HeadlineClass}
 use Rattle.run_tool.specs.Orders.{MayAnswer, lead_of}
 use Rattle.run_tool.proofs.Completing.{onwards}
 use Rattle.run_tool.proofs.Headlines.{one-tree, one-script, not-refused, file-told, program-fits, never}
@@ -88,7 +89,25 @@ module _ (one : OneAnswer) (told : Telling) (name : List ℕ) (budget : ℕ) (fi
     -- what a call comes to
     abbrev Comes : ℕ → Type 0
     Comes number = (devices.after ≡ devices.before) × (((number ≡ 30) × Took sink.taken_before sink.taken_after [])
-        ⊎ ((answer : Answer) × RunsClass file boards budget answer × (number ≡ status_number (status_of answer)) × Took sink.taken_before sink.taken_after (output_of answer)))
+        ⊎ ((extent : Extent) × (text : ByteList) × Took sink.taken_before sink.taken_after text × IsClassText file boards budget extent text number × IsRunOfImages file boards budget extent text))
+
+    -- the answer's text
+    comes-so : (answer : Answer) (number : ℕ) → RunsClass file boards budget answer → number ≡ status_number (status_of answer) → Took sink.taken_before sink.taken_after (output_of answer)
+        → (extent : Extent) × (text : ByteList) × Took sink.taken_before sink.taken_after text × IsClassText file boards budget extent text number × IsRunOfImages file boards budget extent text
+    comes-so answer number (inl r) e took = (
+      whole,
+      r.text,
+      subst (λ a. Took sink.taken_before sink.taken_after (output_of a)) r.is took,
+      (r.has, e ∙ ap (λ a. status_number (status_of a)) r.is),
+      r.images,
+    )
+    comes-so answer number (inr r) e took = (
+      cut,
+      r.text,
+      subst (λ a. Took sink.taken_before sink.taken_after (output_of a)) r.is took,
+      (r.has, e ∙ ap (λ a. status_number (status_of a)) r.is),
+      r.images,
+    )
 
     -- no device changes by the run of a class
     stay : (answer : Answer) → RunsClass file boards budget answer → Leaves devices answer → devices.after ≡ devices.before
@@ -97,12 +116,12 @@ module _ (one : OneAnswer) (told : Telling) (name : List ℕ) (budget : ℕ) (fi
 
     by-ending : (rose : Type 0) (ending : Ending) (number : ℕ) → number ≡ ending_number ending → CommandEnds sink devices [] (MayAnswer (record { told = told; rose = rose }) (Some (run_class name budget))) ending
         → (ending ≡ Cut → Rose sink.faults_before sink.faults_after) → ¬ rose → ¬ Rose sink.faults_before sink.faults_after → Comes number
-    by-ending rose (Gave given) number e s cut quiet calm =
+    by-ending rose (Gave given) number e s rises quiet calm =
         let runs = class-due s.0 (onwards (record { told = told; rose = rose }) (unfailing told) (Some (run_class name budget)) s.0 (λ file. refl, quiet) s.1) in
-        (stay s.0 runs s.4, inr (s.0, runs, e ∙ ap status_number s.2, s.3))
-    by-ending rose Cut number e s cut quiet calm = absurd (calm (cut refl))
-    by-ending rose NoMemory number e (inl x, p) cut quiet calm = (p, inl (e, x))
-    by-ending rose NoMemory number e (inr x, p) cut quiet calm = (p, inl (e, x))
+        (stay s.0 runs s.4, inr (comes-so s.0 number runs (e ∙ ap status_number s.2) s.3))
+    by-ending rose Cut number e s rises quiet calm = absurd (calm (rises refl))
+    by-ending rose NoMemory number e (inl x, p) rises quiet calm = (p, inl (e, x))
+    by-ending rose NoMemory number e (inr x, p) rises quiet calm = (p, inl (e, x))
 
 -- what a call comes to that ended so
 pub headline-class : (one : OneAnswer) {B : Type 0} {sink : OfSink} {devices : OfDevices B} (files : ToldFiles) (asked : Option Asked) (ending : Ending) (number : ℕ) → number ≡ ending_number ending

@@ -4,7 +4,8 @@ use Rattle.board_world.specs.Observations.{ByteList}
 use Rattle.sts_meaning.specs.Frames.{Activity}
 use Rattle.sts_meaning.specs.Heaps.{Heap}
 use Rattle.sts_meaning.specs.Steps.{source, empty}
-use Rattle.sts_implements.specs.Images.{instructions_of_a_step, ImageImplements}
+use Rattle.sts_implements.specs.Images.{instructions_of_a_step}
+use Rattle.sts_whole.specs.Compiled.{IsBuiltFor}
 use Rattle.bank_model.specs.Fibers.{Fiber, Shared}
 use Rattle.hex_image.specs.Laws.{IsImage}
 use Rattle.board_world.specs.Simulation.{Paired}
@@ -22,7 +23,7 @@ use Rattle.class_file.specs.declared.class.Names.{Names}
 use Rattle.sts_words.specs.Orders.{Asked, run_class}
 use Rattle.run_tool.specs.declared.ending.Status.{Status}
 use Rattle.run_tool.specs.declared.ending.Status.TheVariants.{Done, Panicked, OutOfBudget}
-use Rattle.run_tool.specs.Answers.{Answer, says, status_of, output_of, status_number, OfSink, OfDevices}
+use Rattle.run_tool.specs.Answers.{Answer, says, status_number, OfSink, OfDevices}
 use Rattle.run_tool.specs.Files.{ToldFiles, Telling, NeitherFails, IsToldWithin}
 use Rattle.run_tool.specs.ClassBoards.{AnswersClassFile, BoardSource, OverBoards}
 use Rattle.run_tool.specs.Programs.{IsToldProgram}
@@ -47,13 +48,13 @@ class_of_sources file boards = record { members = map source_member boards; unti
 abbrev pub status_by : ℕ → Status
 status_by panics = if panics == 0 then Done else Panicked
 
--- an image of bytes that fits into flash implements the program of a board, and runs on the board's script
+-- the image that is built of a board's program, of bytes and within flash, runs on the board's script
 pub record IsBuiltAs (board : BoardSource) (setup : Setup) : Type 0 where
   pub is_image : IsImage setup.image
-  pub implements : ImageImplements board.program board.tables.texts setup.image
+  pub built : IsBuiltFor board.program board.tables.texts setup.image
   pub script : setup.script ≡ board.script
 
--- So runs, for some list of free words for each board, the class of images that implement the boards' programs.
+-- So runs, for some list of free words for each board, the class of the images that are built of the boards' programs.
 pub record ImagesRun (file : ClassFile) (boards : List BoardSource) (runs : world.Class Fiber Shared → Type 0)
     : Type 0 where
   pub setups : List Setup
@@ -99,8 +100,28 @@ pub record IsToldClass (told : Telling) (name : List ℕ) (file : ClassFile) (bo
   pub is : IsToldWithin told name (λ text. Tells text (Ok file))
   pub are : Paired (IsToldBoard told file.end) file.boards boards
 
--- The claim, of a call with these words, for a class that is told: where no count of faults rose, of the folder or the sink, no device changed; and there was no memory, and nothing was written; or the run of the
--- class was, whole, with status 0, or 3 where some board panicked; or cut where a board's budget ended, with status 4.
+-- How far the run of a class comes: to its end, or to where the budget of a board ended.
+pub data Extent : Type 0 where
+  whole : Extent
+  cut : Extent
+
+-- First. What is written is the text of the class of the boards' sources. It is the whole one: each source has ended, within so many counted steps; the status is 0, or 3 where some board panicked. Or it is cut in the run
+-- of a board whose source hasn't ended: no source has made more counted steps than the budget, and this one has made one at least for each 512 of it; the status is 4.
+abbrev pub IsClassText : ClassFile → List BoardSource → (budget : ℕ) → Extent → ByteList → (number : ℕ) → Type 0
+IsClassText file boards budget whole text number =
+    (has : HasWholeText (class_of_sources file boards) budget text)
+    × (number ≡ status_number (status_by (how_many_end is_panic (boards_now file.end has.runs))))
+IsClassText file boards budget cut text number =
+    HasTextCutWithin (class_of_sources file boards) 512 budget text × (number ≡ status_number OutOfBudget)
+
+-- Second. That is the text of the class of the images that are built of the boards' programs, for some list of free words for each: each has ended within the budget of instructions; or none has executed more than
+-- the budget, and the one in whose run the text is cut has executed as many.
+abbrev pub IsRunOfImages : ClassFile → List BoardSource → (budget : ℕ) → Extent → ByteList → Type 0
+IsRunOfImages file boards budget whole text = ImagesRun file boards (λ class. HasWholeText class budget text)
+IsRunOfImages file boards budget cut text = ImagesRun file boards (λ class. HasSpentText class budget text)
+
+-- The claim, of a call with these words, for a class that is told: where no count of faults rose, of the folder or the sink, no device changed; and there was no memory, and nothing was written; or the text of the
+-- class of the boards' sources was, and that is the run of their images.
 abbrev pub HeadlineClass : {B : Type 0} → ToldFiles → OfSink → OfDevices B → Option Asked → ℕ → Type 0
 HeadlineClass files sink devices asked number =
     (name : List ℕ) (budget : ℕ) (file : ClassFile) (boards : List BoardSource)
@@ -108,5 +129,5 @@ HeadlineClass files sink devices asked number =
     → NeitherFails files sink
     → (devices.after ≡ devices.before)
     × (((number ≡ 30) × Took sink.taken_before sink.taken_after [])
-    ⊎ ((answer : Answer) × RunsClass file boards budget answer × (number ≡ status_number (status_of answer))
-    × Took sink.taken_before sink.taken_after (output_of answer)))
+    ⊎ ((extent : Extent) × (text : ByteList) × Took sink.taken_before sink.taken_after text
+    × IsClassText file boards budget extent text number × IsRunOfImages file boards budget extent text))

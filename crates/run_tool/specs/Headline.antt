@@ -10,7 +10,7 @@ use Rattle.sts_syntax.specs.TypedTrees.{TypedProgram}
 use Rattle.tool_io.specs.Putting.{Took}
 use Rattle.hex_image.specs.Laws.{IsImage}
 use Rattle.event_script.specs.declared.script.Script.{Script}
-use Rattle.sts_implements.specs.Images.{ImageImplements}
+use Rattle.sts_whole.specs.Compiled.{IsBuiltFor}
 use Rattle.board_run.specs.Ran.{world_after, IsExecuted}
 use Rattle.sts_whole.specs.Accepting.{Accepts}
 use Rattle.sts_whole.specs.Programs.{source_after}
@@ -65,7 +65,7 @@ pub record IsTranscript {B : Type 0} (r : AskedRun) (sink : OfSink) (devices : O
 -- ended, or which are the whole budget.
 pub record IsRunOfImage (r : AskedRun) (steps executed : ℕ) (image : List ℕ) : Type 0 where
   pub is_image : IsImage image
-  pub implements : ImageImplements r.program r.tables.texts image
+  pub built : IsBuiltFor r.program r.tables.texts image
   pub free : List ℕ
   pub is_executed : IsExecuted (world_after image r.script free) r.budget executed
   pub board : source_board r steps ≡ (world_after image r.script free executed).board

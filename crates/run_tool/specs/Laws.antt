@@ -1,10 +1,10 @@
 -- What holds of the answers, and which statuses a command may end with where nothing stands in its way.
-use Rattle.std.specs.Prelude.{◌≡◌, ℕ, Bool, List, Option, None, ◌⊎◌, Some}
+use Rattle.std.specs.Prelude.{◌≡◌, ◌++◌, ℕ, Bool, List, Option, None, ◌⊎◌, Some}
 use Rattle.sts_base.specs.declared.refused.Code.{Code}
 use Rattle.sts_base.specs.declared.tables.Tables.{Tables}
 use Rattle.board_world.specs.Observations.{ByteList}
 use Rattle.sts_syntax.specs.TypedTrees.{TypedProgram}
-use Rattle.sts_implements.specs.Images.{ImageImplements}
+use Rattle.sts_whole.specs.Compiled.{IsBuiltFor}
 use Rattle.sts_whole.specs.Accepting.{Accepts, IsRefusedFor}
 use Rattle.hex_image.specs.declared.refused.HexCode.{HexCode}
 use Rattle.hex_image.specs.Spells.{Spells, Breaks}
@@ -52,10 +52,10 @@ pub record ProgramStatuses (told : Telling) (text : List ℕ) : Type 0 where
   pub not_run_at : (code : Code) (at : ℕ) (script arrivals : List ℕ) (budget number : ℕ) → IsRefusedFor text code at
       → IsStatusOf (RunsTextAt (unfailing told) script arrivals budget text) number → number ≡ 10
 
--- What `build` writes of a program spells an image that implements it, and no other image.
+-- What `build` writes of a program spells the image that is built of it, and no other image.
 pub record WritesReadable (P : TypedProgram) (texts : List ByteList) (answer : Answer) : Type 0 where
   pub image : List ℕ
-  pub implements : ImageImplements P texts image
+  pub built : IsBuiltFor P texts image
   pub spelled : Spells (output_of answer) image
   pub only : (other : List ℕ) → Spells (output_of answer) other → other ≡ image
 
@@ -65,6 +65,10 @@ HoldsProgram told name = (tables : Tables) × (P : TypedProgram) × IsToldProgra
 
 abbrev pub HoldsScript : Telling → Option (List ℕ) → Type 0
 HoldsScript told name = (script : Script) × IsToldScript told name script
+
+-- What is written ends with what `build` wrote.
+abbrev pub EndsWithBuilt : Answer → Answer → Type 0
+EndsWithBuilt answer built = (front : List ℕ) × (output_of answer ≡ front ++ output_of built)
 
 -- Each file that the words name is told: the program's text is accepted, the image's spells one, and the script's, the arrivals' and the class's stand for some, and so are those that the class names.
 abbrev pub HoldsFiles : Telling → Asked → Type 0

@@ -9,8 +9,8 @@ use Rattle.board_world.specs.Transcript.{count_text}
 use Rattle.sts_syntax.specs.TypedTrees.{TypedProgram}
 use Rattle.hex_image.specs.Laws.{IsImage}
 use Rattle.hex_image.specs.Writing.{hextext}
-use Rattle.sts_implements.specs.Images.{ImageImplements}
 use Rattle.sts_whole.specs.Accepting.{Accepts, IsRefusedFor}
+use Rattle.sts_whole.specs.Compiled.{IsBuiltFor}
 use Rattle.run_tool.specs.declared.ending.Status.TheVariants.{Done, Refused}
 use Rattle.run_tool.specs.Answers.{Answer, says}
 use Rattle.run_tool.specs.Files.{Telling, IsTold, Reading, AnswersRead}
@@ -45,10 +45,10 @@ OverProgram answers =
 abbrev pub ChecksText : List ℕ → Answer → Type 0
 ChecksText = OverProgram (λ P texts answer. answer ≡ says Done (codes "accepted\n"))
 
--- `build` writes the HEX text of an image, of bytes and within flash, that implements the program.
+-- `build` writes the HEX text of the program's image, of bytes and within flash, which implements it.
 abbrev pub WritesImage : TypedProgram → List ByteList → Answer → Type 0
 WritesImage P texts answer =
-    (image : List ℕ) × IsImage image × ImageImplements P texts image × (answer ≡ says Done (hextext image))
+    (image : List ℕ) × IsImage image × IsBuiltFor P texts image × (answer ≡ says Done (hextext image))
 
 abbrev pub BuildsText : List ℕ → Answer → Type 0
 BuildsText = OverProgram WritesImage

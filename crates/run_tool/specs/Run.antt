@@ -7,7 +7,7 @@ use Rattle.sts_syntax.specs.TypedTrees.{TypedProgram}
 use Rattle.event_script.specs.declared.script.Script.{Script}
 use Rattle.hex_image.specs.Laws.{IsImage}
 use Rattle.board_outside.specs.Moves.{Move, HasMet}
-use Rattle.sts_implements.specs.Images.{ImageImplements}
+use Rattle.sts_whole.specs.Compiled.{IsBuiltFor}
 use Rattle.sts_whole.specs.Programs.{source_after, ImageReaches}
 use Rattle.run_tool.specs.Answers.{Answer, runs}
 use Rattle.run_tool.specs.Files.{ToldFiles}
@@ -16,12 +16,12 @@ use Rattle.run_tool.specs.Scripts.{OverScript}
 use Rattle.run_tool.specs.Runs.{run_status, asked_behind}
 
 -- The answer is the run of a program on a script within a budget of instructions: what the program's source has met after some counted steps, its closing line, and what is asked for behind
--- it, with the status of its end. An image of bytes that fits into flash implements the program, and its run within the budget reaches these counted steps, for some list of free words.
+-- it, with the status of its end. The program's image, of bytes and within flash, implements it, and its run within the budget reaches these counted steps, for some list of free words.
 pub record RunsProgram (P : TypedProgram) (texts : List ByteList) (script : Script) (budget : ℕ)
     (stats with_image : Bool) (answer : Answer) : Type 0 where
   pub image : List ℕ
   pub is_image : IsImage image
-  pub implements : ImageImplements P texts image
+  pub built : IsBuiltFor P texts image
   pub free : List ℕ
   pub executed : ℕ
   pub steps : ℕ

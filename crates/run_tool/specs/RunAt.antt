@@ -15,11 +15,14 @@ use Rattle.arrival_file.specs.Codes.{number_of}
 use Rattle.arrival_file.specs.Verdict.{Tells}
 use Rattle.arrival_file.specs.World.{world_arrivals}
 use Rattle.hex_image.specs.Laws.{IsImage}
-use Rattle.sts_implements.specs.Images.{ImageImplements}
+use Rattle.sts_whole.specs.Compiled.{IsBuiltFor}
+use Rattle.board_run.specs.Ran.{IsExecuted}
+use Rattle.event_script.specs.World.{world_entries}
+use Rattle.irq_arrival.specs.Along.{world_with}
 use Rattle.irq_arrival.specs.SourceRuns.{source_at, MeetsAt}
 use Rattle.sts_base.specs.declared.tables.Tables.{Tables}
 use Rattle.board_world.specs.Simulation.{Paired}
-use Rattle.board_world.specs.Runs.{Arrival as WorldArrival, RisesTo, Placed}
+use Rattle.board_world.specs.Runs.{Arrival as WorldArrival, RisesTo, Placed, applied}
 use Rattle.board_outside.specs.Moves.{Move, HasMet}
 use Rattle.board_outside.specs.Ports.{DevicesAfter}
 use Rattle.tool_io.specs.Putting.{Took}
@@ -49,7 +52,7 @@ pub record RunsProgramAt (P : TypedProgram) (texts : List ByteList) (script : Sc
     (budget : ℕ) (answer : Answer) : Type 0 where
   pub image : List ℕ
   pub is_image : IsImage image
-  pub implements : ImageImplements P texts image
+  pub built : IsBuiltFor P texts image
   pub meets : MeetsAt P texts image script (world_arrivals arrivals) budget
   pub is : (let b : Board = (source_at P texts script meets.places meets.steps).board in
       answer ≡ runs (run_status b.end) meets.moves (closing_line b.clock b.end))
@@ -77,7 +80,7 @@ pub record AreTold (told : Telling) (name script_name arrivals_name : List ℕ)
   pub script : IsToldScript told (Some script_name) read
   pub arrivals : IsToldWithin told arrivals_name (λ text. Tells text (Ok come))
 
--- The program's meaning comes so far on the script: after these counted steps, no more than the budget, and one at least for each 512 of it where it hasn't ended. The first
+-- First. The program's meaning comes so far on the script: after these counted steps, no more than the budget, and one at least for each 512 of it where it hasn't ended. The first
 -- so many arrivals, none past the budget, come behind steps that don't fall, each at most at its number and near it; each whose number is below the budget comes, unless the program
 -- has ended within so many steps.
 pub record ComesSoFar (P : TypedProgram) (texts : List ByteList) (read : Script) (come : List Arrival)
@@ -103,7 +106,24 @@ pub record WritesAt {B : Type 0} (sink : OfSink) (devices : OfDevices B) (P : Ty
   pub status : number ≡ status_number (run_status (source_at P texts read comes.places comes.steps).board.end)
   pub ended : IsProgramStatus number
 
--- For words that ask for it, over files that are told, and where no count of faults rose: there was no memory, and nothing was written and no device changed; or that.
+-- Second. That is the run of the image that is built of the program: for some list of free words the board of the bank machine's run of it with these arrivals is the same after the instructions executed, at which it
+-- has ended, or which are the whole budget. The arrivals that came are those that were applied in this run: each whose number is executed before it has ended, and no other.
+pub record IsRunOfImageAt (P : TypedProgram) (texts : List ByteList) (read : Script) (come : List Arrival) (budget : ℕ)
+    (so_far : ComesSoFar P texts read come budget) : Type 0 where
+  pub image : List ℕ
+  pub is_image : IsImage image
+  pub built : IsBuiltFor P texts image
+  pub free : List ℕ
+  pub executed : ℕ
+  pub is_executed :
+      IsExecuted (world_with image read.end (world_entries read.entries) (world_arrivals come) free) budget executed
+  pub board : (source_at P texts read so_far.places so_far.steps).board
+      ≡ (world_with image read.end (world_entries read.entries) (world_arrivals come) free executed).board
+  pub came : take (length so_far.places) (world_arrivals come)
+      ≡ applied (λ n. (world_with image read.end (world_entries read.entries) (world_arrivals come) free n).board)
+      (world_arrivals come) executed
+
+-- For words that ask for it, over files that are told, and where no count of faults rose: there was no memory, and nothing was written and no device changed; or that was written, and it is the run of an image.
 abbrev pub HeadlineAt : {B : Type 0} → ToldFiles → OfSink → OfDevices B → Option Asked → ℕ → Type 0
 HeadlineAt files sink devices asked number =
     (name script_name arrivals_name : List ℕ) (budget : ℕ)
@@ -112,4 +132,5 @@ HeadlineAt files sink devices asked number =
     → AreTold files.told name script_name arrivals_name tables P read come
     → NeitherFails files sink
     → ((number ≡ 30) × Took sink.taken_before sink.taken_after [] × (devices.after ≡ devices.before))
-    ⊎ WritesAt sink devices P tables.texts read come budget number
+    ⊎ ((writes : WritesAt sink devices P tables.texts read come budget number)
+    × IsRunOfImageAt P tables.texts read come budget writes.comes)

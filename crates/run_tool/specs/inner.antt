@@ -1,6 +1,6 @@
 -- What one private function hands on to the next: how a call ended, what a file's text stands for, which names were asked for on the way, and boards that
 -- are made ready.
-use Rattle.std.specs.Prelude.{◌≡◌, ◌≤◌, ◌++◌, ◌∷◌, ℕ, List, [], Option, Some, None, Result, Ok, Err, All, length, vec_len}
+use Rattle.std.specs.Prelude.{◌≡◌, ◌≤◌, ◌⊎◌, ◌++◌, ◌∷◌, ℕ, List, [], Option, Some, None, Result, Ok, Err, All, length, vec_len}
 use Rattle.std.specs.declared.vec.Vec.{Vec}
 use Rattle.std.specs.declared.alloc.Global.{Global}
 use Rattle.sts_base.specs.Faults.{Rose}
@@ -47,6 +47,10 @@ pub record GivesOneOf {S : Type 0} (taken : S → Option (List ℕ)) (faults : S
   pub ends : SaysAnswer may (taken old) (taken new) ending
   pub later : faults old ≤ faults new
   pub cut : ending ≡ Cut → Rose (faults old) (faults new)
+
+-- words that aren't taken were told so, or the sink failed
+abbrev pub ToldUsage : Ending → Type 0
+ToldUsage ending = (ending ≡ Gave status.Usage) ⊎ (ending ≡ Cut)
 
 -- the call ended for want of memory
 abbrev pub FoundNoMemory : Ending → Type 0

@@ -5,7 +5,7 @@ ghost use Rattle.thumb_code.specs.Map.{flash_end};
 ghost use Rattle.tool_io.specs.Putting.{PutsTo};
 ghost use Rattle.sts_syntax.specs.TypedTrees.{TypedProgram};
 ghost use Rattle.sts_whole.specs.Accepting as accepting;
-ghost use Rattle.sts_implements.specs.Images.{ImageImplements};
+ghost use Rattle.sts_whole.specs.Compiled.{IsBuiltFor};
 ghost use Rattle.sts_words.specs.Orders.{IsBudget};
 ghost use Rattle.run_tool.specs.Answers.{Concludes, Led, of_devices, of_sink};
 ghost use Rattle.run_tool.specs.inner.{GivesOneOf, none_to_read};
@@ -150,7 +150,7 @@ fn run_big<K: Sink, D: Device>(
 ) -> Ending
     requires size { vec_len image ≤ flash_end }
     requires budget { IsBudget options.budget }
-    ensures { (P : TypedProgram) (texts : List ByteList) → ImageImplements P texts image.items
+    ensures { (P : TypedProgram) (texts : List ByteList) → IsBuiltFor P texts image.items
         → Concludes (of_sink K.taken K.faults out.old out.new)
         (of_devices D.account places.old.items places.new.items) (spec.big_line size)
         (RunsProgram P texts default_script options.budget options.behind.stats options.behind.image) result }

@@ -3,7 +3,7 @@ ghost use Rattle.std.specs.Prelude.{◌≡◌, ◌≤◌, List, vec_len, IfOk, I
 ghost use Rattle.thumb_code.specs.Map.{flash_end};
 ghost use Rattle.board_world.specs.Observations.{ByteList};
 ghost use Rattle.sts_syntax.specs.TypedTrees.{TypedProgram};
-ghost use Rattle.sts_implements.specs.Images.{ImageImplements};
+ghost use Rattle.sts_whole.specs.Compiled.{IsBuiltFor};
 ghost use Rattle.sts_whole.specs.Built.{Builds};
 ghost use Rattle.sts_base.specs.Faults.{Rose};
 ghost use Rattle.run_tool.specs.Answers.{IsFailureTold};
@@ -38,7 +38,7 @@ pub fn image_of<K: Sink>(alloc: Global, text: &[u8], out: &mut K) -> Result<Vec<
 /// Writes an image that implements a program as HEX.
 fn write_image<K: Sink>(alloc: Global, image: Vec<u8>, out: &mut K) -> Ending
     requires size { vec_len image ≤ flash_end }
-    ensures { (P : TypedProgram) (texts : List ByteList) → ImageImplements P texts image.items
+    ensures { (P : TypedProgram) (texts : List ByteList) → IsBuiltFor P texts image.items
         → GivesOneOf K.taken K.faults out.old out.new (WritesImage P texts) result }
 {
     match write_hex(alloc, &image) {

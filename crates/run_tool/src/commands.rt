@@ -6,7 +6,7 @@ ghost use Rattle.run_tool.specs.declared.ending.Ending.{Ending};
 ghost use Rattle.sts_words.specs.Words.{IsAskedBy};
 ghost use Rattle.run_tool.specs.Answers.{Concludes, IsFailureTold, ending_number, of_devices, of_sink};
 ghost use Rattle.run_tool.specs.Orders.{CompletesCommand, IsOfImage, NamesScript, lead_of, MayAnswer};
-ghost use Rattle.run_tool.specs.inner.{FoundNoMemory};
+ghost use Rattle.run_tool.specs.inner.{FoundNoMemory, ToldUsage};
 ghost use Rattle.run_tool.specs.Headline.{Headline};
 ghost use Rattle.run_tool.specs.Laws.{IsComplete};
 ghost use Rattle.sts_words.specs.Orders.{Asked, IsInRange, order_view};
@@ -112,6 +112,7 @@ fn perform<F: Folder, K: Sink, D: Device>(
     ensures folder_later { F.faults folder.old ≤ F.faults folder.new }
     ensures failure { IsFailureTold (F.faults folder.old) (F.faults folder.new) result }
     ensures untouched { IsAskedBy (map string_bytes words.now) None → folder.new ≡ folder.old }
+    ensures usage { IsAskedBy (map string_bytes words.now) None → ToldUsage result }
 {
     match read_command_line(alloc, words) {
         Ok(None) => say(out, Status::Usage, b"usage\n"),
@@ -140,7 +141,7 @@ fn perform<F: Folder, K: Sink, D: Device>(
 /// Answers the status; "exactly" and "surely" hold where each file was fetched, the sink took all, and there was memory:
 ///
 /// - 0 where the command was done and the whole output was taken; of a run, where it ended quiet or by the script; of a class, where each of its runs did;
-/// - 2, `usage`, exactly where the words aren't taken; nothing is asked of the folder then;
+/// - 2, `usage`, exactly where the words aren't taken; nothing is asked of the folder then, and no memory is wanting;
 /// - 3, the transcript that `panic T C` closes; by `run-hex` exactly where the run panics within the budget, by `run`, `run-at` and `big` only where the source's run panics so,
 ///   and surely where it does within M / 512 counted steps; by `class` exactly where the whole text was written and some board panicked;
 /// - 4, the transcript that `budget T` closes; by `run-hex` exactly where the run hasn't ended after the budget, by `run`, `run-at` and `big` only where the source's run doesn't
@@ -203,6 +204,7 @@ pub fn sts_main<F: Folder, K: Sink>(
     ensures failure_told { (F.faults folder.new ≡ F.faults folder.old) ⊎ ((result ≡ 20) ⊎ (result ≡ 22)) }
     ensures sink_failed { result ≡ 22 → Rose (K.faults out.old) (K.faults out.new) }
     ensures untouched { IsAskedBy (map string_bytes words.now) None → folder.new ≡ folder.old }
+    ensures usage { IsAskedBy (map string_bytes words.now) None → (result ≡ 2) ⊎ (result ≡ 22) }
     ensures asked { (asked : Option Asked) → IsAskedBy (map string_bytes words.now) asked
         → HasAsked F.asked folder.old folder.new
         (Wants (told_by F.holds F.faults folder.old folder.new) (result ≡ 30) asked) }

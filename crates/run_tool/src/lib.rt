@@ -21,4 +21,7 @@ mod script;
 pub use big::big_text;
 pub use commands::sts_main;
 pub use ending::{Ending, Status};
-pub use laws::{built_texts_are_read_back, statuses_of_programs, statuses_of_run_hex};
+pub use laws::{
+    built_texts_are_read_back, runs_end_with_what_is_built, statuses_of_programs,
+    statuses_of_run_hex,
+};

@@ -10,7 +10,7 @@ ghost use Rattle.tool_io.specs.Putting.{Puts, PutsTo};
 ghost use Rattle.hex_image.specs.Writing.{hextext};
 ghost use Rattle.sts_syntax.specs.TypedTrees.{TypedProgram};
 ghost use Rattle.event_script.specs.Sound.{IsSound};
-ghost use Rattle.sts_implements.specs.Images.{ImageImplements};
+ghost use Rattle.sts_whole.specs.Compiled.{IsBuiltFor};
 ghost use Rattle.sts_words.specs.Orders.{IsBudget};
 ghost use Rattle.sts_words.specs.Views.{spoken};
 ghost use Rattle.run_tool.specs.Answers.{Concludes, IsFailureTold, of_devices, of_sink};
@@ -178,7 +178,7 @@ pub fn run_program<K: Sink, D: Device>(
     requires size { vec_len image ≤ flash_end }
     requires script { IsSound script }
     requires budget { IsBudget options.budget }
-    ensures { (P : TypedProgram) (texts : List ByteList) → ImageImplements P texts image.items
+    ensures { (P : TypedProgram) (texts : List ByteList) → IsBuiltFor P texts image.items
         → Concludes (of_sink K.taken K.faults out.old out.new)
         (of_devices D.account places.old.items places.new.items) []
         (RunsProgram P texts script options.budget options.behind.stats options.behind.image) result }
@@ -203,7 +203,7 @@ fn run_named<F: Folder, K: Sink, D: Device>(
 ) -> Ending
     requires size { vec_len image ≤ flash_end }
     requires budget { IsBudget asked.options.budget }
-    ensures answer { (P : TypedProgram) (texts : List ByteList) → ImageImplements P texts image.items
+    ensures answer { (P : TypedProgram) (texts : List ByteList) → IsBuiltFor P texts image.items
         → Concludes (of_sink K.taken K.faults out.old out.new)
         (of_devices D.account places.old.items places.new.items) []
         (OverScript (told_by F.holds F.faults folder.old folder.new) (option_map spoken asked.entry.script)

@@ -6,7 +6,7 @@ ghost use Rattle.thumb_code.specs.Map.{flash_end};
 ghost use Rattle.sts_syntax.specs.TypedTrees.{TypedProgram};
 ghost use Rattle.event_script.specs.Sound as script_sound;
 ghost use Rattle.arrival_file.specs.Sound.{IsSound};
-ghost use Rattle.sts_implements.specs.Images.{ImageImplements};
+ghost use Rattle.sts_whole.specs.Compiled.{IsBuiltFor};
 ghost use Rattle.sts_words.specs.Orders.{IsBudget};
 ghost use Rattle.run_tool.specs.Answers.{Concludes, IsFailureTold, of_devices, of_sink};
 ghost use Rattle.run_tool.specs.inner.{FoundNoMemory};
@@ -67,7 +67,7 @@ fn run_board_at<K: Sink, D: Device>(
     requires script { script_sound.IsSound setup.script }
     requires arrivals { IsSound arrivals.now }
     requires budget { IsBudget budget }
-    ensures { (P : TypedProgram) (texts : List ByteList) → ImageImplements P texts setup.image.items
+    ensures { (P : TypedProgram) (texts : List ByteList) → IsBuiltFor P texts setup.image.items
         → Concludes (of_sink K.taken K.faults out.old out.new)
         (of_devices D.account places.old.items places.new.items) []
         (RunsProgramAt P texts setup.script arrivals.now budget) result }
@@ -99,7 +99,7 @@ fn run_on_script<F: Folder, K: Sink, D: Device>(
     requires bytes { All (λ byte. byte < 256) setup.image.items }
     requires script { script_sound.IsSound setup.script }
     requires budget { IsBudget asked.budget }
-    ensures answer { (P : TypedProgram) (texts : List ByteList) → ImageImplements P texts setup.image.items
+    ensures answer { (P : TypedProgram) (texts : List ByteList) → IsBuiltFor P texts setup.image.items
         → Concludes (of_sink K.taken K.faults out.old out.new)
         (of_devices D.account places.old.items places.new.items) []
         (RunsOnScript (told_by F.holds F.faults folder.old folder.new)
@@ -127,7 +127,7 @@ fn run_outside<F: Folder, K: Sink, D: Device>(
 ) -> Ending
     requires size { vec_len image ≤ flash_end }
     requires budget { IsBudget asked.budget }
-    ensures answer { (P : TypedProgram) (texts : List ByteList) → ImageImplements P texts image.items
+    ensures answer { (P : TypedProgram) (texts : List ByteList) → IsBuiltFor P texts image.items
         → Concludes (of_sink K.taken K.faults out.old out.new)
         (of_devices D.account places.old.items places.new.items) []
         (RunsOutside (told_by F.holds F.faults folder.old folder.new)

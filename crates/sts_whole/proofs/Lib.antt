@@ -3,6 +3,7 @@ mod Light
 mod Implementing
 mod Room
 mod Layable
+mod Imaged
 mod Accepted
 mod Reached
 mod Ends

@@ -3,6 +3,7 @@ use Rattle.std.specs.Prelude.{◌≡◌, ◌≢◌, ◌≤◌, ◌⊎◌, ℕ, L
 use Rattle.sts_base.specs.declared.refused.Code.{Code}
 use Rattle.sts_base.specs.declared.refused.Code.TheVariants.{Syntax}
 use Rattle.sts_base.specs.declared.tables.Tables.{Tables}
+use Rattle.board_world.specs.Observations.{ByteList}
 use Rattle.sts_lexer.specs.declared.token.Token.{Token}
 use Rattle.sts_syntax.specs.BoardTable.{library_size}
 use Rattle.sts_syntax.specs.Programs.{Program}
@@ -10,6 +11,8 @@ use Rattle.sts_syntax.specs.TypedTrees.{TypedProgram}
 use Rattle.sts_syntax.specs.Weights.{routines_weight}
 use Rattle.sts_whole.specs.Accepting.{ReadsText, Accepts, IsRefusedFor}
 use Rattle.sts_whole.specs.Buildable.{IsBuildable}
+use Rattle.sts_whole.specs.Compiled.{IsImageOf}
+use Rattle.sts_whole.specs.Built.{Builds}
 
 -- The typed program of an accepted text can be built, and its library weighs no more than 600.
 abbrev pub AcceptedIsBuildable : Type 0
@@ -37,3 +40,15 @@ pub record TextHasOneAnswer : Type 0 where
   pub some : (text : List ℕ) → ((tables : Tables) × (P : TypedProgram) × Accepts text tables P)
       ⊎ ((code : Code) × (at : ℕ) × IsRefusedFor text code at)
   pub one : OneAnswer
+
+-- A program with its texts has one image, and has one where it can be built.
+pub record OneImage : Type 0 where
+  pub some : (P : TypedProgram) (texts : List ByteList) → IsBuildable P texts → (image : List ℕ) × IsImageOf P texts image
+  pub one : (P : TypedProgram) (texts : List ByteList) (image other : List ℕ) → IsImageOf P texts image
+      → IsImageOf P texts other → image ≡ other
+
+-- So has an accepted text: there is the image of its program, and what is built of it twice is the same.
+pub record TextHasOneImage : Type 0 where
+  pub some : (text : List ℕ) (tables : Tables) (P : TypedProgram) → Accepts text tables P
+      → (image : List ℕ) × IsImageOf P tables.texts image
+  pub one : (text image other : List ℕ) → Builds text image → Builds text other → image ≡ other

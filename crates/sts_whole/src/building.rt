@@ -9,7 +9,7 @@ ghost use Rattle.sts_syntax.specs.WellTypedPrograms.{IsWellTyped, IsProgramWithi
 ghost use Rattle.thumb_layout.specs.Cells.{laid};
 ghost use Rattle.thumb_emit.specs.Emit.{function_pieces};
 ghost use Rattle.sts_whole.specs.Building.{IsPlaceable, HasSoundPlaces, IsLayable};
-ghost use Rattle.sts_whole.specs.Compiled.{functions_of, bodies_of, IsCompiled};
+ghost use Rattle.sts_whole.specs.Compiled.{functions_of, bodies_of, with_chosen_places, IsCompiled, IsImageOf};
 
 use emitted_bytes::laid_code_keeps_its_weight;
 use flat_ir::Function;
@@ -30,6 +30,7 @@ fn place_all(alloc: Global, functions: &[Function]) -> Result<Vec<Placed>, NoMem
     requires { AllByRecursion IsPlaceable functions.now }
     ensures functions { IfOk result (λ placed. functions_of placed.items ≡ functions.now) }
     ensures sound { IfOk result (λ placed. AllByRecursion HasSoundPlaces placed.items) }
+    ensures chosen { IfOk result (λ placed. placed.items ≡ map with_chosen_places functions.now) }
 {
     let mut all = Vec::new(alloc);
     for function in functions {
@@ -73,7 +74,8 @@ pub fn compile(alloc: Global, typed: &Typed, tables: &Tables) -> Result<Vec<u8>,
     requires limits { IsProgramWithinLimits (typed_program typed.now) tables.now.texts }
     requires library { routines_weight (take library_size (typed_program typed.now).functions) ≤ 600 }
     requires texts { NamesTexts (length tables.now.texts) (typed_program typed.now) }
-    ensures { IfOk result (λ image. IsCompiled (typed_program typed.now) tables.now.texts image.items) }
+    ensures compiled { IfOk result (λ image. IsCompiled (typed_program typed.now) tables.now.texts image.items) }
+    ensures is_the { IfOk result (λ image. IsImageOf (typed_program typed.now) tables.now.texts image.items) }
 {
     code_is_well_formed();
     only_parameters_are_live_at_entry();

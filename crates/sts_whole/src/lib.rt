@@ -24,7 +24,9 @@ pub use accepted_programs::{
 pub use accepting::accept;
 pub use board::run_image;
 pub use checking::check;
-pub use compiled::compiled_images_implement_their_programs;
+pub use compiled::{
+    compiled_images_implement_their_programs, images_are_one, texts_have_one_image,
+};
 pub use program::{build, run_text};
 pub use reaching::runs_reach_their_sources;
 pub use refused_places::refusals_stand_in_their_texts;

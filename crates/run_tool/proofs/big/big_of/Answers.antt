@@ -15,7 +15,7 @@ returns-in-Ok g c =
     let answers = λ (P : TypedProgram) (texts : List ByteList). RunsProgram P texts default_script m.budget m.behind.stats m.behind.image in
     let b = c.in-Ok.ensures.built in
     concludes-more (answers b.program b.tables.texts) (OverProgram answers c.args.text.now) c.run_big.result
-    (of-program answers c.args.text.now c.in-Ok.image.items b) (c.run_big.ensures b.program b.tables.texts b.implements)
+    (of-program answers c.args.text.now c.in-Ok.image.items b) (c.run_big.ensures b.program b.tables.texts b.built)
 
 pub returns-in-Err : goal.returns-in-Err
 returns-in-Err g c =

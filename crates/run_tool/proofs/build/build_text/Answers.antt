@@ -11,4 +11,4 @@ returns-in-Ok g c =
     gives-after (BuildsText c.args.text.now) c.write_image.result
     (subst (λ x. Took x (g.K.Sink.taken c.image_of.new.out) []) c.in-Ok.ensures.unwritten (took-nothing (g.K.Sink.taken c.image_of.new.out))) c.in-Ok.ensures.later
     (gives-more (WritesImage b.program b.tables.texts) (BuildsText c.args.text.now) c.write_image.result (of-program WritesImage c.args.text.now c.in-Ok.image.items b)
-    (c.write_image.ensures b.program b.tables.texts b.implements))
+    (c.write_image.ensures b.program b.tables.texts b.built))

@@ -66,3 +66,10 @@ returns-in-Err-clause-asked g c = λ order is.
     let new = c.args.folder.now in
     let files = told_by holds faults old new in
     asked-none asked old (Wants files (NoMemory ≡ NoMemory) order) (lacks-all files (NoMemory ≡ NoMemory) order refl)
+
+pub returns-in-Ok-Some-clause-usage : goal.returns-in-Ok-Some-clause-usage
+returns-in-Ok-Some-clause-usage g c = λ is.
+    let words = map string_bytes c.args.words.now in
+    let some : Some (order_view c.in-Ok-Some.order) ≡ None =
+    one-asked words (Some (order_view c.in-Ok-Some.order)) None (subst (λ (o : Option Asked). IsAskedBy words o) (ap (option_map order_view) c.in-Ok-Some.field-0-is) c.in-Ok-Some.ensures.order) is in
+    absurd (cc)

@@ -3,7 +3,7 @@ use Rattle.run_tool.proofs.Headlines.{headline}
 use Rattle.run_tool.proofs.CompleteCalls.{complete}
 use Rattle.run_tool.proofs.ToldAt.{headline-at}
 use Rattle.run_tool.proofs.ToldClass.{headline-class}
-use Rattle.std.proofs.Common.{◌≡◌, ◌∙◌, ap, refl, map}
+use Rattle.std.proofs.Common.{◌≡◌, ◌∙◌, ap, refl, map, inl, inr}
 use Rattle.std.specs.String.{string_bytes}
 use Rattle.sts_words.proofs.Laws.{some-asked}
 use Rattle.run_tool.specs.declared.ending.Ending.TheVariants.{NoMemory}
@@ -72,3 +72,6 @@ returns-clause-sink_failed g c =
 
 pub returns-clause-failure_told : goal.returns-clause-failure_told
 returns-clause-failure_told g c = told-number (g.F.Folder.faults c.args.folder.now) (g.F.Folder.faults c.perform.new.folder) c.perform.result c.number.result c.number.ensures c.perform.ensures.failure
+
+pub returns-clause-usage : goal.returns-clause-usage
+returns-clause-usage g c = λ is. elim (c.perform.ensures.usage is) [ inl e ↦ inl (c.number.ensures ∙ ap ending_number e) | inr e ↦ inr (c.number.ensures ∙ ap ending_number e) ]

@@ -9,7 +9,7 @@ returns c = λ P texts answer w.
     let text = sym (ap output_of w.3) in
     record {
       image = w.0;
-      implements = w.2;
+      built = w.2;
       spelled = subst (λ written. Spells written w.0) text round.spelled;
       only = λ other s. round.only other (subst (λ written. Spells written other) (sym text) s);
     }

@@ -20,7 +20,7 @@ returns-in-Ok-clause-answer g c =
     concludes-after g.K.Sink.taken g.K.Sink.faults c.args.out.now c.image_of.new.out c.run_outside.new.out may c.run_outside.result
     (subst (λ x. Took x (g.K.Sink.taken c.image_of.new.out) []) c.in-Ok.ensures.unwritten (took-nothing (g.K.Sink.taken c.image_of.new.out))) c.in-Ok.ensures.later
     (concludes-more (answers b.program b.tables.texts) may c.run_outside.result
-    (of-program answers c.args.text.now c.in-Ok.image.items b) (c.run_outside.ensures.answer b.program b.tables.texts b.implements))
+    (of-program answers c.args.text.now c.in-Ok.image.items b) (c.run_outside.ensures.answer b.program b.tables.texts b.built))
 
 pub returns-in-Err-clause-answer : goal.returns-in-Err-clause-answer
 returns-in-Err-clause-answer g c =

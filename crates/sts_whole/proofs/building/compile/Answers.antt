@@ -10,7 +10,7 @@ use Rattle.thumb_layout.specs.Cells.{laid}
 use Rattle.image_link.specs.Image.{IsLinked}
 use Rattle.image_link.specs.Linkable.{IsLinkable}
 use Rattle.sts_whole.specs.Building.{IsPlaceable, IsLayable}
-use Rattle.sts_whole.specs.Compiled.{bodies_of}
+use Rattle.sts_whole.specs.Compiled.{bodies_of, with_chosen_places}
 use Rattle.sts_whole.proofs.Layable.{placeable, layable, texts_below, fits}
 use Rattle.sts_whole.proofs.building.compile.Goals as goal
 
@@ -64,8 +64,8 @@ unreachable-requires c =
     c.requires.limits c.requires.library formed functions c.in_ok-placed.ensures.sound linked in
     absurd (omega (arith, more, fit))
 
-pub returns-in-Ok : goal.returns-in-Ok
-returns-in-Ok c =
+pub returns-in-Ok-clause-compiled : goal.returns-in-Ok-clause-compiled
+returns-in-Ok-clause-compiled c =
     let P = typed_program c.args.typed.now in
     let texts = c.args.tables.now.texts in
     let placed = c.in_ok-placed.placed.items in
@@ -80,4 +80,16 @@ returns-in-Ok c =
       sound = c.in_ok-placed.ensures.sound;
       linked = linked;
       room = c.in-Ok.ensures.fits;
+    }
+
+pub returns-in-Ok-clause-is_the : goal.returns-in-Ok-clause-is_the
+returns-in-Ok-clause-is_the c =
+    let P = typed_program c.args.typed.now in
+    let texts = c.args.tables.now.texts in
+    let is = c.as_slice.ensures ∙ ap (λ (k : FlatCode). k.functions) c.in_ok-code.ensures in
+    let placed_is = c.in_ok-placed.ensures.chosen ∙ ap (map with_chosen_places) is in
+    let laid_is = c.in_ok-laid.ensures ∙ ap (λ (all : List Placed). map laid (bodies_of all)) (c.deref.ensures.value ∙ placed_is) in
+    record {
+      linked = subst (λ (k : FlatCode). IsLinked (map laid (bodies_of (map with_chosen_places (lowered P).functions))) k texts c.in-Ok.image.items) c.in_ok-code.ensures
+          (subst (λ (all : List Laid). IsLinked all c.in_ok-code.code texts c.in-Ok.image.items) laid_is c.in-Ok.ensures.linked);
     }

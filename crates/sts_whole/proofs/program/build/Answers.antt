@@ -11,6 +11,9 @@ returns-in-Ok-compile-clause-built c =
       tables = tables;
       program = P;
       accepted = accepted;
-      implements = c.compiled_images_implement_their_programs.ensures P tables.texts c.in-Ok-compile.image.items b.0 c.in-Ok-compile.ensures;
-      room = c.in-Ok-compile.ensures.room;
+      built = record {
+        is_the = c.in-Ok-compile.ensures.is_the;
+        implements = c.compiled_images_implement_their_programs.ensures P tables.texts c.in-Ok-compile.image.items b.0 c.in-Ok-compile.ensures.compiled;
+      };
+      room = c.in-Ok-compile.ensures.compiled.room;
     }
