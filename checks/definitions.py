@@ -87,6 +87,8 @@ class Definitions:
                 return self.cases[key]
             if module.startswith("declared."):
                 parts = module.split(".")[1:]
+                if parts[-1] == "TheConstants":
+                    return (crate, "declared", name)
                 return (crate, "declared", parts[-1 if parts[-1] != "TheVariants" else -2])
             if (crate, module) not in self.imports or name not in self.imports[crate, module][0]:
                 return None
