@@ -1,0 +1,4 @@
+mod Telling
+mod Nodes
+mod Parts
+mod Agreement

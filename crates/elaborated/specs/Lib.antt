@@ -1,0 +1,4 @@
+pub mod Elaborating
+pub mod Elaborated
+pub mod Laws
+pub mod Rows
