@@ -13,3 +13,4 @@ mod words;
 pub use explaining::{Explanation, explain_by};
 pub use places::place_at;
 pub use row::{ANYWHERE, Inside, Row, Test};
+pub use words::{WordKind, is_in, next_word};

@@ -4,6 +4,7 @@ use Rattle.std.specs.List.{prefix_len}
 use Rattle.std.specs.Str.Lossy.{utf8_lossy}
 use Rattle.around_place.specs.declared.explaining.Explanation.{Explanation}
 use Rattle.around_place.specs.Words.{breaks_line}
+use Rattle.near_names.specs.declared.meaning.Meant.{Meant}
 use Rattle.pointed_line.specs.Columns.{written_from, as_shown, blank_at}
 
 -- how many bytes of a text stand before its first line break
@@ -41,3 +42,17 @@ abbrev pub explained_text : Explanation → List ℕ → (at column : ℕ) → L
 explained_text said text at column =
     said.sentence.now
     ++ (opened_words said.opened ++ (codes "\n" ++ (pointed text at column ++ example_line said.example.now)))
+
+-- bytes of a text as a terminal shows them
+abbrev pub shown_in_line : List ℕ → List ℕ
+shown_in_line bytes = written_from as_shown 0 (chars (utf8_lossy bytes))
+
+-- that a word isn't there, and what is meant
+abbrev pub meant_words : Meant → List ℕ
+meant_words meant =
+    codes "`" ++ (shown_in_line meant.word.now ++ (codes "` isn't there; did you mean `"
+    ++ (meant.front.now ++ (shown_in_line meant.name.now ++ codes "`?\n"))))
+
+-- what is told of a word that may be meant as another: this, and the place's line
+abbrev pub meant_text : Meant → List ℕ → (at column : ℕ) → List ℕ
+meant_text meant text at column = meant_words meant ++ pointed text at column

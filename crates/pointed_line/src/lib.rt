@@ -4,4 +4,4 @@
 mod line;
 mod telling;
 
-pub use telling::explained;
+pub use telling::{explained, explained_meant};

@@ -8,6 +8,16 @@ use unicode_width::UnicodeWidthChar;
 /// The columns from one stop of a tab to the next.
 const STOP: usize = 8;
 
+/// Whether a character turns the direction of what comes after it, ends a line elsewhere, or has neither width nor look.
+fn is_unseen(character: char) -> bool
+    ensures { result ≡ spec.is_unseen character }
+{
+    (character == '\u{AD}' || (character == '\u{61C}' || character == '\u{FEFF}'))
+        || (('\u{200B}' <= character && character <= '\u{200F}')
+            || (('\u{2028}' <= character && character <= '\u{202E}')
+                || ('\u{2060}' <= character && character <= '\u{206F}')))
+}
+
 /// How many columns a character takes, so many columns behind a tab stop.
 fn columns(behind: usize, character: char) -> usize
     requires { behind < spec.stop }
@@ -16,6 +26,9 @@ fn columns(behind: usize, character: char) -> usize
 {
     if character == '\t' {
         return STOP - behind;
+    }
+    if is_unseen(character) {
+        return 1;
     }
     match character.width() {
         Some(columns) => columns,
@@ -49,6 +62,9 @@ fn push_shown(out: &mut String, behind: usize, character: char) -> Result<(), Al
 {
     if character == '\t' {
         return push_spaces(out, STOP - behind);
+    }
+    if is_unseen(character) {
+        return out.push('\u{FFFD}');
     }
     match character.width() {
         Some(_) => out.push(character),

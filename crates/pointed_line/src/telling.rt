@@ -7,6 +7,7 @@ ghost use Rattle.pointed_line.specs.Explained as spec;
 use crate::line::{push_blank, push_line};
 use around_place::{Explanation, place_at};
 use itoa::Buffer;
+use near_names::Meant;
 use std::alloc::{AllocError, Global};
 
 fn breaks_line(byte: u8) -> bool
@@ -132,5 +133,45 @@ pub fn explained(
     out.push_str("\n")?;
     push_pointed(alloc, &mut out, text, at, column)?;
     push_example(&mut out, said.example)?;
+    Ok(out)
+}
+
+/// Adds bytes of a text as a terminal shows them.
+fn push_bytes(alloc: Global, out: &mut String, bytes: &[u8]) -> Result<(), AllocError>
+    ensures { OnOk result (string_bytes out.new ≡ string_bytes out.old ++ spec.shown_in_line bytes.now) }
+{
+    let text = String::from_utf8_lossy(alloc, bytes)?;
+    push_line(out, text.as_str())
+}
+
+/// Adds that a word isn't there, and what is meant.
+fn push_meant(alloc: Global, out: &mut String, meant: &Meant<'_>) -> Result<(), AllocError>
+    ensures { OnOk result (string_bytes out.new ≡ string_bytes out.old ++ spec.meant_words meant.now) }
+{
+    out.push_str("`")?;
+    push_bytes(alloc, out, meant.word)?;
+    out.push_str("` isn't there; did you mean `")?;
+    out.push_str(meant.front)?;
+    push_bytes(alloc, out, meant.name)?;
+    out.push_str("`?\n")?;
+    Ok(())
+}
+
+/// What is told of a word of a text at a line and a column, both from 1, that may be meant as another: that it isn't there, and what is meant; and the line with
+/// a caret as `explained` has them.
+pub fn explained_meant(
+    alloc: Global,
+    meant: &Meant<'_>,
+    text: &[u8],
+    line: u32,
+    column: u32,
+) -> Result<String, AllocError>
+    ensures { IfOk result (λ told. (at : ℕ)
+        × (IsFound text.now line column at × (string_bytes told ≡ spec.meant_text meant.now text.now at column))) }
+{
+    let place = place_at(text, line, column);
+    let mut out = String::new(alloc);
+    push_meant(alloc, &mut out, meant)?;
+    push_pointed(alloc, &mut out, text, place, column)?;
     Ok(out)
 }

@@ -2,7 +2,7 @@
 
 use crate::faults::write_fault;
 use crate::files::write_file;
-use crate::hints::write_hint;
+use crate::hints::{write_hint, write_meant};
 use crate::words::write_words;
 use std::alloc::Global;
 use std::io;
@@ -14,6 +14,7 @@ fn write_answer(alloc: Global, text: &mut String, row: &str) -> io::Result<()> {
     }
     match row.split_once(' ') {
         Some(("hint", asked)) => write_hint(alloc, text, asked),
+        Some(("meant", asked)) => write_meant(alloc, text, asked),
         Some(("fault", asked)) => write_fault(alloc, text, asked),
         Some((kind @ ("class" | "script" | "arrivals"), file)) => write_file(
             alloc, text, kind, file,

@@ -1,0 +1,5 @@
+use Rattle.std.proofs.Common.{length}
+use Rattle.near_names.proofs.own.push_declared.Given as goal
+
+abbrev pub decreases-loop-word : goal.decreases-loop-word
+decreases-loop-word l = length l.rest
