@@ -38,15 +38,19 @@ def explained(asked):
     return [line.split("\t") for line in answered([f"hint {place} {text.hex()}" for place, text in asked])]
 
 
-# The tries.
-tries = []
-with open(f"{top}/checks/hints.txt", encoding="utf-8") as file:
-    lines = [line for line in file.read().split("\n") if line and not line.startswith("#")]
-for at in range(0, len(lines), 3):
-    text, place, sentence = lines[at : at + 3]
-    assert text.startswith("> ") and re.fullmatch(r"\d+ \d+ \d+( \d+ \d+)?", place), text
+def tries_of(name):
+    """The texts of a table, each with its place and what is to be said."""
+    with open(f"{top}/checks/{name}", encoding="utf-8") as file:
+        lines = [line for line in file.read().split("\n") if line and not re.match(r"#( |$)", line)]
     bytes_of = {"n": "\n", "r": "\r", "t": "\t", "\\": "\\"}
-    tries.append((re.sub(r"\\([nrt\\])", lambda found: bytes_of[found[1]], text[2:]).encode(), place.split(), sentence))
+    for at in range(0, len(lines), 3):
+        text, place, said = lines[at : at + 3]
+        assert text.startswith("> ") and re.fullmatch(r"\d+ \d+ \d+( \d+ \d+)?", place), text
+        yield re.sub(r"\\([nrt\\])", lambda found: bytes_of[found[1]], text[2:]).encode(), place.split(), said
+
+
+# The tries.
+tries = list(tries_of("hints.txt"))
 for (text, place, sentence), told in zip(tries, refusals([text for text, _, _ in tries])):
     if told != " ".join(place[:3]):
         wrong.append(f"{text!r}: sts tells {told} in place of {' '.join(place[:3])}")
@@ -55,8 +59,19 @@ for (text, place, sentence), (said, _, opened) in zip(tries, explained([(" ".joi
         wrong.append(f"{text!r}: {said!r} in place of {sentence!r}")
     if opened != (" ".join(place[3:]) or "-"):
         wrong.append(f"{text!r}: the bracket at {opened} in place of {' '.join(place[3:]) or '-'}")
-if len(tries) < 60:
+if len(tries) < 300:
     wrong.append(f"{len(tries)} tries")
+
+# Words that are nearly names: the place of sts, and the name of near_names.
+meant = list(tries_of("meant.txt"))
+for (text, place, name), told in zip(meant, refusals([text for text, _, _ in meant])):
+    if told != " ".join(place):
+        wrong.append(f"{text!r}: sts tells {told} in place of {' '.join(place)}")
+for (text, place, name), said in zip(meant, answered([f"meant {' '.join(place)} {text.hex()}" for text, place, _ in meant])):
+    if said != name:
+        wrong.append(f"{text!r}: {said!r} in place of {name!r}")
+if len(meant) < 60:
+    wrong.append(f"{len(meant)} words that are nearly names")
 
 # Scripts, class files and arrivals: the code of sts, and the line and the sentence of input_hints.
 inputs = []
@@ -118,7 +133,7 @@ if len(calls) < 28 or len(members) < 10:
 
 # Each example of the tables is a text that isn't refused by the codes 1 to 7, and each sentence stands on one line, ends with a full stop and is of plain ASCII.
 sources = [f"{top}/crates/refusal_hints/src/own.rt"]
-sources += [f"{top}/crates/refusal_hints/src/tables/{name}.rt" for name in ["calls", "control", "forms", "marks", "names", "rest", "takes", "tokens", "types"]]
+sources += [f"{top}/crates/refusal_hints/src/tables/{name}.rt" for name in ["calls", "control", "forms", "marks", "names", "rest", "takes", "tokens", "types", "drawers", "given", "members", "modern"]]
 said = {"sentence": set(), "example": set()}
 for source in sources:
     with open(source, encoding="utf-8") as file:
@@ -138,8 +153,11 @@ asked = [(f"{code} {line} {column}", text) for code in [0, 3, 6, 8, 11, 15, 99] 
 for (place, text), answer in zip(asked, explained(asked)):
     if len(answer) != 3 or not answer[0].endswith("."):
         wrong.append(f"{place} of {text[:20]!r}: {answer}")
+for (place, text), answer in zip(asked, answered([f"meant {place} {text.hex()}" for place, text in asked])):
+    if answer != "-":
+        wrong.append(f"{place} of {text[:20]!r} is meant as {answer!r}")
 
 for line in wrong:
     print(f"hints: {line}")
-print(f"hints: {len(tries)} tries, {len(inputs)} files, {len(calls)} calls, {len(members)} members that are not here, {len(examples)} examples, {len(said['sentence'])} sentences, {len(asked)} places of any texts, {len(wrong)} wrong")
+print(f"hints: {len(tries)} tries, {len(meant)} words, {len(inputs)} files, {len(calls)} calls, {len(members)} members that are not here, {len(examples)} examples, {len(said['sentence'])} sentences, {len(asked)} places of any texts, {len(wrong)} wrong")
 sys.exit(1 if wrong else 0)

@@ -10,43 +10,43 @@ pub fn calls_1() -> &'static [Row] {
 static CALLS_1: [Row; 7] = [
     Row {
         at: &[Is("basic"), Is("."), Like("pause")],
-        sentence: "The call is `basic.pause`, in these capitals and small letters. Where it stands so, a name `basic` of the program hides the board's: give that another.",
+        sentence: "The call is `basic.pause`, in these capitals and small letters. Where it is written so, a name `basic` of the program hides the board's: give that another.",
         example: "basic.pause(100)",
         ..ANYWHERE
     },
     Row {
         at: &[Is("basic"), Is("."), Like("forever")],
-        sentence: "The call is `basic.forever`, in these capitals and small letters. Where it stands so, a name `basic` of the program hides the board's: give that another.",
+        sentence: "The call is `basic.forever`, in these capitals and small letters. Where it is written so, a name `basic` of the program hides the board's: give that another.",
         example: "basic.forever(function () { })",
         ..ANYWHERE
     },
     Row {
         at: &[Is("basic"), Is("."), Like("showLeds")],
-        sentence: "The call is `basic.showLeds`, in these capitals and small letters. Where it stands so, a name `basic` of the program hides the board's: give that another.",
+        sentence: "The call is `basic.showLeds`, in these capitals and small letters. Where it is written so, a name `basic` of the program hides the board's: give that another.",
         example: "basic.showLeds(`.#.#. ##### ##### .###. ..#..`)",
         ..ANYWHERE
     },
     Row {
         at: &[Is("basic"), Is("."), Like("showNumber")],
-        sentence: "The call is `basic.showNumber`, in these capitals and small letters. Where it stands so, a name `basic` of the program hides the board's: give that another.",
+        sentence: "The call is `basic.showNumber`, in these capitals and small letters. Where it is written so, a name `basic` of the program hides the board's: give that another.",
         example: "basic.showNumber(5)",
         ..ANYWHERE
     },
     Row {
         at: &[Is("basic"), Is("."), Like("showString")],
-        sentence: "The call is `basic.showString`, in these capitals and small letters. Where it stands so, a name `basic` of the program hides the board's: give that another.",
+        sentence: "The call is `basic.showString`, in these capitals and small letters. Where it is written so, a name `basic` of the program hides the board's: give that another.",
         example: "basic.showString(\"HELLO\")",
         ..ANYWHERE
     },
     Row {
         at: &[Is("basic"), Is("."), Like("clearScreen")],
-        sentence: "The call is `basic.clearScreen`, in these capitals and small letters. Where it stands so, a name `basic` of the program hides the board's: give that another.",
+        sentence: "The call is `basic.clearScreen`, in these capitals and small letters. Where it is written so, a name `basic` of the program hides the board's: give that another.",
         example: "basic.clearScreen()",
         ..ANYWHERE
     },
     Row {
         at: &[Is("led"), Is("."), Like("plot")],
-        sentence: "The call is `led.plot`, in these capitals and small letters. Where it stands so, a name `led` of the program hides the board's: give that another.",
+        sentence: "The call is `led.plot`, in these capitals and small letters. Where it is written so, a name `led` of the program hides the board's: give that another.",
         example: "led.plot(2, 2)",
         ..ANYWHERE
     },
@@ -60,43 +60,43 @@ pub fn calls_2() -> &'static [Row] {
 static CALLS_2: [Row; 7] = [
     Row {
         at: &[Is("led"), Is("."), Like("unplot")],
-        sentence: "The call is `led.unplot`, in these capitals and small letters. Where it stands so, a name `led` of the program hides the board's: give that another.",
+        sentence: "The call is `led.unplot`, in these capitals and small letters. Where it is written so, a name `led` of the program hides the board's: give that another.",
         example: "led.unplot(2, 2)",
         ..ANYWHERE
     },
     Row {
         at: &[Is("led"), Is("."), Like("toggle")],
-        sentence: "The call is `led.toggle`, in these capitals and small letters. Where it stands so, a name `led` of the program hides the board's: give that another.",
+        sentence: "The call is `led.toggle`, in these capitals and small letters. Where it is written so, a name `led` of the program hides the board's: give that another.",
         example: "led.toggle(2, 2)",
         ..ANYWHERE
     },
     Row {
         at: &[Is("input"), Is("."), Like("onButtonPressed")],
-        sentence: "The call is `input.onButtonPressed`, in these capitals and small letters. Where it stands so, a name `input` of the program hides the board's: give that another.",
+        sentence: "The call is `input.onButtonPressed`, in these capitals and small letters. Where it is written so, a name `input` of the program hides the board's: give that another.",
         example: "input.onButtonPressed(Button.A, function () { })",
         ..ANYWHERE
     },
     Row {
         at: &[Is("input"), Is("."), Like("buttonIsPressed")],
-        sentence: "The call is `input.buttonIsPressed`, in these capitals and small letters. Where it stands so, a name `input` of the program hides the board's: give that another.",
+        sentence: "The call is `input.buttonIsPressed`, in these capitals and small letters. Where it is written so, a name `input` of the program hides the board's: give that another.",
         example: "if (input.buttonIsPressed(Button.A)) { }",
         ..ANYWHERE
     },
     Row {
         at: &[Is("input"), Is("."), Like("runningTime")],
-        sentence: "The call is `input.runningTime`, in these capitals and small letters. Where it stands so, a name `input` of the program hides the board's: give that another.",
+        sentence: "The call is `input.runningTime`, in these capitals and small letters. Where it is written so, a name `input` of the program hides the board's: give that another.",
         example: "let now = input.runningTime()",
         ..ANYWHERE
     },
     Row {
         at: &[Is("control"), Is("."), Like("inBackground")],
-        sentence: "The call is `control.inBackground`, in these capitals and small letters. Where it stands so, a name `control` of the program hides the board's: give that another.",
+        sentence: "The call is `control.inBackground`, in these capitals and small letters. Where it is written so, a name `control` of the program hides the board's: give that another.",
         example: "control.inBackground(function () { })",
         ..ANYWHERE
     },
     Row {
         at: &[Is("control"), Is("."), Like("onEvent")],
-        sentence: "The call is `control.onEvent`, in these capitals and small letters. Where it stands so, a name `control` of the program hides the board's: give that another.",
+        sentence: "The call is `control.onEvent`, in these capitals and small letters. Where it is written so, a name `control` of the program hides the board's: give that another.",
         example: "control.onEvent(50, 1, function () { })",
         ..ANYWHERE
     },
@@ -110,43 +110,43 @@ pub fn calls_3() -> &'static [Row] {
 static CALLS_3: [Row; 7] = [
     Row {
         at: &[Is("control"), Is("."), Like("onEventFlags")],
-        sentence: "The call is `control.onEventFlags`, in these capitals and small letters. Where it stands so, a name `control` of the program hides the board's: give that another.",
+        sentence: "The call is `control.onEventFlags`, in these capitals and small letters. Where it is written so, a name `control` of the program hides the board's: give that another.",
         example: "control.onEventFlags(50, 1, function () { }, EventFlags.DropIfBusy)",
         ..ANYWHERE
     },
     Row {
         at: &[Is("control"), Is("."), Like("raiseEvent")],
-        sentence: "The call is `control.raiseEvent`, in these capitals and small letters. Where it stands so, a name `control` of the program hides the board's: give that another.",
+        sentence: "The call is `control.raiseEvent`, in these capitals and small letters. Where it is written so, a name `control` of the program hides the board's: give that another.",
         example: "control.raiseEvent(50, 1)",
         ..ANYWHERE
     },
     Row {
         at: &[Is("control"), Is("."), Like("raiseNow")],
-        sentence: "The call is `control.raiseNow`, in these capitals and small letters. Where it stands so, a name `control` of the program hides the board's: give that another.",
+        sentence: "The call is `control.raiseNow`, in these capitals and small letters. Where it is written so, a name `control` of the program hides the board's: give that another.",
         example: "control.raiseNow(50, 1)",
         ..ANYWHERE
     },
     Row {
         at: &[Is("control"), Is("."), Like("waitForEvent")],
-        sentence: "The call is `control.waitForEvent`, in these capitals and small letters. Where it stands so, a name `control` of the program hides the board's: give that another.",
+        sentence: "The call is `control.waitForEvent`, in these capitals and small letters. Where it is written so, a name `control` of the program hides the board's: give that another.",
         example: "control.waitForEvent(50, 1)",
         ..ANYWHERE
     },
     Row {
         at: &[Is("control"), Is("."), Like("eventValue")],
-        sentence: "The call is `control.eventValue`, in these capitals and small letters. Where it stands so, a name `control` of the program hides the board's: give that another.",
+        sentence: "The call is `control.eventValue`, in these capitals and small letters. Where it is written so, a name `control` of the program hides the board's: give that another.",
         example: "let value = control.eventValue()",
         ..ANYWHERE
     },
     Row {
         at: &[Is("control"), Is("."), Like("panic")],
-        sentence: "The call is `control.panic`, in these capitals and small letters. Where it stands so, a name `control` of the program hides the board's: give that another.",
+        sentence: "The call is `control.panic`, in these capitals and small letters. Where it is written so, a name `control` of the program hides the board's: give that another.",
         example: "control.panic(5)",
         ..ANYWHERE
     },
     Row {
         at: &[Is("serial"), Is("."), Like("writeNumber")],
-        sentence: "The call is `serial.writeNumber`, in these capitals and small letters. Where it stands so, a name `serial` of the program hides the board's: give that another.",
+        sentence: "The call is `serial.writeNumber`, in these capitals and small letters. Where it is written so, a name `serial` of the program hides the board's: give that another.",
         example: "serial.writeNumber(5)",
         ..ANYWHERE
     },
@@ -160,43 +160,43 @@ pub fn calls_4() -> &'static [Row] {
 static CALLS_4: [Row; 7] = [
     Row {
         at: &[Is("serial"), Is("."), Like("writeString")],
-        sentence: "The call is `serial.writeString`, in these capitals and small letters. Where it stands so, a name `serial` of the program hides the board's: give that another.",
+        sentence: "The call is `serial.writeString`, in these capitals and small letters. Where it is written so, a name `serial` of the program hides the board's: give that another.",
         example: "serial.writeString(\"hello\")",
         ..ANYWHERE
     },
     Row {
         at: &[Is("serial"), Is("."), Like("writeLine")],
-        sentence: "The call is `serial.writeLine`, in these capitals and small letters. Where it stands so, a name `serial` of the program hides the board's: give that another.",
+        sentence: "The call is `serial.writeLine`, in these capitals and small letters. Where it is written so, a name `serial` of the program hides the board's: give that another.",
         example: "serial.writeLine(\"hello\")",
         ..ANYWHERE
     },
     Row {
         at: &[Is("pins"), Is("."), Like("digitalWritePin")],
-        sentence: "The call is `pins.digitalWritePin`, in these capitals and small letters. Where it stands so, a name `pins` of the program hides the board's: give that another.",
+        sentence: "The call is `pins.digitalWritePin`, in these capitals and small letters. Where it is written so, a name `pins` of the program hides the board's: give that another.",
         example: "pins.digitalWritePin(DigitalPin.P0, 1)",
         ..ANYWHERE
     },
     Row {
         at: &[Is("radio"), Is("."), Like("sendNumber")],
-        sentence: "The call is `radio.sendNumber`, in these capitals and small letters. Where it stands so, a name `radio` of the program hides the board's: give that another.",
+        sentence: "The call is `radio.sendNumber`, in these capitals and small letters. Where it is written so, a name `radio` of the program hides the board's: give that another.",
         example: "radio.sendNumber(5)",
         ..ANYWHERE
     },
     Row {
         at: &[Is("Math"), Is("."), Like("abs")],
-        sentence: "The call is `Math.abs`, in these capitals and small letters. Where it stands so, a name `Math` of the program hides the board's: give that another.",
+        sentence: "The call is `Math.abs`, in these capitals and small letters. Where it is written so, a name `Math` of the program hides the board's: give that another.",
         example: "let x = Math.abs(-5)",
         ..ANYWHERE
     },
     Row {
         at: &[Is("Math"), Is("."), Like("min")],
-        sentence: "The call is `Math.min`, in these capitals and small letters. Where it stands so, a name `Math` of the program hides the board's: give that another.",
+        sentence: "The call is `Math.min`, in these capitals and small letters. Where it is written so, a name `Math` of the program hides the board's: give that another.",
         example: "let x = Math.min(1, 2)",
         ..ANYWHERE
     },
     Row {
         at: &[Is("Math"), Is("."), Like("max")],
-        sentence: "The call is `Math.max`, in these capitals and small letters. Where it stands so, a name `Math` of the program hides the board's: give that another.",
+        sentence: "The call is `Math.max`, in these capitals and small letters. Where it is written so, a name `Math` of the program hides the board's: give that another.",
         example: "let x = Math.max(1, 2)",
         ..ANYWHERE
     },

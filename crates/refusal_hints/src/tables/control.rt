@@ -47,7 +47,7 @@ static CONTROL_1: [Row; 10] = [
     Row {
         before: &[Is("for")],
         at: &[Any],
-        sentence: "What `for` counts stands in parentheses.",
+        sentence: "What `for` counts is in parentheses.",
         example: "for (let i = 0; i < 5; i++) { }",
         ..ANYWHERE
     },
@@ -138,21 +138,21 @@ static CONTROL_2: [Row; 10] = [
     Row {
         line: &[Is("}"), Is("else"), Is("(")],
         at: &[Is("{")],
-        sentence: "Behind `else` stands no test: take it out, or write `else if`.",
+        sentence: "After `else` comes no test: take it out, or write `else if`.",
         example: "if (a == 1) { } else { }",
         ..ANYWHERE
     },
     Row {
         line: &[Is("else"), Is("(")],
         at: &[Is("{")],
-        sentence: "Behind `else` stands no test: take it out, or write `else if`.",
+        sentence: "After `else` comes no test: take it out, or write `else if`.",
         example: "if (a == 1) { } else { }",
         ..ANYWHERE
     },
     Row {
         before: &[Is("else"), Is("if")],
         at: &[Is("{")],
-        sentence: "Behind `else if` stands a test in parentheses.",
+        sentence: "After `else if` comes a test in parentheses.",
         example: "if (a == 1) { } else if (a == 2) { }",
         ..ANYWHERE
     },
@@ -173,21 +173,21 @@ static CONTROL_3: [Row; 9] = [
     Row {
         before: &[Is("else")],
         at: &[Is(":")],
-        sentence: "There is no `:` behind `else`: its block stands in `{ }`.",
+        sentence: "There is no `:` after `else`: its block is in `{ }`.",
         example: "if (a == 1) { } else { }",
         ..ANYWHERE
     },
     Row {
         before: &[Is("if")],
         at: &[Any],
-        sentence: "What `if` tests stands in parentheses.",
+        sentence: "What `if` tests is in parentheses.",
         example: "if (a == 1) { }",
         ..ANYWHERE
     },
     Row {
         before: &[Is("while")],
         at: &[Any],
-        sentence: "What `while` tests stands in parentheses.",
+        sentence: "What `while` tests is in parentheses.",
         example: "while (a < 5) { }",
         ..ANYWHERE
     },
@@ -195,7 +195,7 @@ static CONTROL_3: [Row; 9] = [
         line: &[Is("if")],
         before: &[Is(")")],
         at: &[Is("&&")],
-        sentence: "The whole test stands in one pair of parentheses.",
+        sentence: "The whole test is in one pair of parentheses.",
         example: "if (a == 1 && b == 2) { }",
         ..ANYWHERE
     },
@@ -203,7 +203,7 @@ static CONTROL_3: [Row; 9] = [
         line: &[Is("if")],
         before: &[Is(")")],
         at: &[Is("||")],
-        sentence: "The whole test stands in one pair of parentheses.",
+        sentence: "The whole test is in one pair of parentheses.",
         example: "if (a == 1 || b == 2) { }",
         ..ANYWHERE
     },
@@ -245,7 +245,7 @@ static CONTROL_4: [Row; 9] = [
     },
     Row {
         at: &[Is("else")],
-        sentence: "An `else` stands right behind the block of its `if`, with no `;` between them.",
+        sentence: "An `else` is right after the block of its `if`, with no `;` between them.",
         example: "if (a == 1) { } else { }",
         ..ANYWHERE
     },

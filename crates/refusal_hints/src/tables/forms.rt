@@ -64,7 +64,7 @@ static FORMS_1: [Row; 10] = [
     Row {
         before: &[Is("let")],
         at: &[Is("=")],
-        sentence: "The name is missing behind `let`.",
+        sentence: "The name is missing after `let`.",
         example: "let x = 5",
         ..ANYWHERE
     },
@@ -78,7 +78,7 @@ static FORMS_1: [Row; 10] = [
     Row {
         before: &[Is("class")],
         at: &[Any],
-        sentence: "The name is missing behind `class`; a reserved word is none.",
+        sentence: "The name is missing after `class`; a reserved word is none.",
         example: "class A { x = 5 }",
         ..ANYWHERE
     },
@@ -105,21 +105,21 @@ static FORMS_2: [Row; 10] = [
     Row {
         before: &[Is("let"), Name],
         at: &[Is("number")],
-        sentence: "Between a name and its type stands `:`.",
+        sentence: "Between a name and its type is `:`.",
         example: "let x: number = 5",
         ..ANYWHERE
     },
     Row {
         before: &[Is("let"), Name],
         at: &[Is("string")],
-        sentence: "Between a name and its type stands `:`.",
+        sentence: "Between a name and its type is `:`.",
         example: "let s: string = \"\"",
         ..ANYWHERE
     },
     Row {
         before: &[Is("let"), Name],
         at: &[Is("boolean")],
-        sentence: "Between a name and its type stands `:`.",
+        sentence: "Between a name and its type is `:`.",
         example: "let b: boolean = true",
         ..ANYWHERE
     },
@@ -154,7 +154,7 @@ static FORMS_2: [Row; 10] = [
     Row {
         before: &[Is("let"), Name, Is(":")],
         at: &[Is(":")],
-        sentence: "Between a name and its type stands one `:`.",
+        sentence: "Between a name and its type is one `:`.",
         example: "let x: number = 5",
         ..ANYWHERE
     },
@@ -176,7 +176,7 @@ static FORMS_3: [Row; 10] = [
     Row {
         before: &[Is(":"), Is("Array")],
         at: &[Is("<")],
-        sentence: "A list's type is written with `[]` behind that of its items.",
+        sentence: "A list's type is written with `[]` after that of its items.",
         example: "let a: number[] = []",
         ..ANYWHERE
     },
@@ -203,7 +203,7 @@ static FORMS_3: [Row; 10] = [
     Row {
         before: &[Is("def")],
         at: &[Name],
-        sentence: "A function begins with `function`, and its body stands in `{ }`.",
+        sentence: "A function begins with `function`, and its body is in `{ }`.",
         example: "function f(): void { }",
         ..ANYWHERE
     },
@@ -230,7 +230,7 @@ static FORMS_3: [Row; 10] = [
     },
     Row {
         at: &[Is("void"), Name],
-        sentence: "A function begins with `function`; the type of its result stands behind its parameters.",
+        sentence: "A function begins with `function`; the type of its result is after its parameters.",
         example: "function f(): void { }",
         ..ANYWHERE
     },
@@ -245,7 +245,7 @@ static FORMS_4: [Row; 10] = [
     Row {
         before: &[Is("int")],
         at: &[Name, Is("(")],
-        sentence: "A function begins with `function`; the type of its result stands behind its parameters.",
+        sentence: "A function begins with `function`; the type of its result is after its parameters.",
         example: "function f(): number { return 5 }",
         ..ANYWHERE
     },
@@ -267,7 +267,7 @@ static FORMS_4: [Row; 10] = [
         line: &[Is("number")],
         before: &[Is("number")],
         at: &[Name],
-        sentence: "A variable is declared by `let`; its type may stand behind its name.",
+        sentence: "A variable is declared by `let`; its type may be after its name.",
         example: "let x: number = 5",
         ..ANYWHERE
     },
@@ -275,7 +275,7 @@ static FORMS_4: [Row; 10] = [
         line: &[Is("string")],
         before: &[Is("string")],
         at: &[Name],
-        sentence: "A variable is declared by `let`; its type may stand behind its name.",
+        sentence: "A variable is declared by `let`; its type may be after its name.",
         example: "let s: string = \"\"",
         ..ANYWHERE
     },
@@ -283,7 +283,7 @@ static FORMS_4: [Row; 10] = [
         line: &[Is("boolean")],
         before: &[Is("boolean")],
         at: &[Name],
-        sentence: "A variable is declared by `let`; its type may stand behind its name.",
+        sentence: "A variable is declared by `let`; its type may be after its name.",
         example: "let b: boolean = true",
         ..ANYWHERE
     },
@@ -291,7 +291,7 @@ static FORMS_4: [Row; 10] = [
         line: &[Is("function")],
         before: &[Is("number")],
         at: &[Name],
-        sentence: "The type of a parameter stands behind its name.",
+        sentence: "The type of a parameter is after its name.",
         example: "function f(a: number): void { }",
         ..ANYWHERE
     },
@@ -299,7 +299,7 @@ static FORMS_4: [Row; 10] = [
         line: &[Is("function")],
         before: &[Is("string")],
         at: &[Name],
-        sentence: "The type of a parameter stands behind its name.",
+        sentence: "The type of a parameter is after its name.",
         example: "function f(s: string): void { }",
         ..ANYWHERE
     },
@@ -307,7 +307,7 @@ static FORMS_4: [Row; 10] = [
         line: &[Is("function")],
         before: &[Is("boolean")],
         at: &[Name],
-        sentence: "The type of a parameter stands behind its name.",
+        sentence: "The type of a parameter is after its name.",
         example: "function f(b: boolean): void { }",
         ..ANYWHERE
     },
@@ -354,7 +354,7 @@ static FORMS_5: [Row; 10] = [
         line: &[Is("function")],
         before: &[Is(")")],
         at: &[Is("->")],
-        sentence: "The type of a result stands behind `:`.",
+        sentence: "The type of a result is after `:`.",
         example: "function f(): number { return 5 }",
         ..ANYWHERE
     },
@@ -362,7 +362,7 @@ static FORMS_5: [Row; 10] = [
         line: &[Is("function")],
         before: &[Is(")")],
         at: &[Is("void")],
-        sentence: "The type of a result stands behind `:`.",
+        sentence: "The type of a result is after `:`.",
         example: "function f(): void { }",
         ..ANYWHERE
     },
@@ -370,7 +370,7 @@ static FORMS_5: [Row; 10] = [
         line: &[Is("function")],
         before: &[Is(")")],
         at: &[Is("number")],
-        sentence: "The type of a result stands behind `:`.",
+        sentence: "The type of a result is after `:`.",
         example: "function f(): number { return 5 }",
         ..ANYWHERE
     },
@@ -378,14 +378,14 @@ static FORMS_5: [Row; 10] = [
         line: &[Is("function")],
         before: &[Is(":")],
         at: &[Is("{")],
-        sentence: "The type of the result is missing behind `:`.",
+        sentence: "The type of the result is missing after `:`.",
         example: "function f(): void { }",
         ..ANYWHERE
     },
     Row {
         before: &[Is("function")],
         at: &[Is("{")],
-        sentence: "Parentheses stand behind `function`.",
+        sentence: "Parentheses are after `function`.",
         example: "basic.forever(function () { })",
         ..ANYWHERE
     },
@@ -400,7 +400,7 @@ static FORMS_5: [Row; 10] = [
     Row {
         line: &[Is("basic"), Is("."), Is("forever"), Is("("), Is(")")],
         at: &[Is("{")],
-        sentence: "The handler stands within the parentheses of the call.",
+        sentence: "The handler is within the parentheses of the call.",
         example: "basic.forever(function () { })",
         ..ANYWHERE
     },
@@ -416,7 +416,7 @@ static FORMS_6: [Row; 10] = [
         line: &[Is("input"), Is("."), Is("onButtonPressed")],
         before: &[Is(")")],
         at: &[Is("{")],
-        sentence: "The handler stands within the parentheses of the call, behind a comma.",
+        sentence: "The handler is within the parentheses of the call, after a comma.",
         example: "input.onButtonPressed(Button.A, function () { })",
         ..ANYWHERE
     },
@@ -432,21 +432,21 @@ static FORMS_6: [Row; 10] = [
         line: &[Is("input"), Is("."), Is("onButtonPressed")],
         before: &[Is("Button"), Is("."), Name],
         at: &[Is("(")],
-        sentence: "A comma stands between `Button.A` and the handler.",
+        sentence: "A comma is between `Button.A` and the handler.",
         example: "input.onButtonPressed(Button.A, function () { })",
         ..ANYWHERE
     },
     Row {
         before: &[Is("."), Name],
         at: &[Is("function")],
-        sentence: "What a call is given stands in parentheses.",
+        sentence: "What a call is given is in parentheses.",
         example: "basic.forever(function () { })",
         ..ANYWHERE
     },
     Row {
         at: &[Is("function"), Name, Is("(")],
         inside: Unclosed(b'{'),
-        sentence: "A function stands outside blocks: a `{` before it isn't closed.",
+        sentence: "A function is outside blocks: a `{` before it isn't closed.",
         example: "function f(): void { }",
         ..ANYWHERE
     },
@@ -460,14 +460,14 @@ static FORMS_6: [Row; 10] = [
     },
     Row {
         before: &[Is("=>")],
-        sentence: "An arrow's body stands in `{ }`.",
+        sentence: "An arrow's body is in `{ }`.",
         example: "basic.forever(() => { basic.pause(1) })",
         ..ANYWHERE
     },
     Row {
         before: &[Name],
         at: &[Is("=>")],
-        sentence: "An arrow's parameters stand in parentheses; and an arrow stands as a handler in a call alone.",
+        sentence: "An arrow's parameters are in parentheses; and an arrow is a handler in a call alone.",
         example: "basic.forever(() => { })",
         ..ANYWHERE
     },
@@ -480,7 +480,7 @@ static FORMS_6: [Row; 10] = [
     Row {
         before: &[Is("function"), Name],
         at: &[Is("{")],
-        sentence: "Parentheses stand behind a function's name, also where it has no parameters.",
+        sentence: "Parentheses are after a function's name, also where it has no parameters.",
         example: "function f(): void { }",
         ..ANYWHERE
     },
@@ -540,21 +540,21 @@ static FORMS_7: [Row; 10] = [
     Row {
         before: &[Is("-")],
         at: &[Is(">")],
-        sentence: "Between an object and its member stands a dot.",
+        sentence: "Between an object and its member is a dot.",
         example: "basic.pause(100)",
         ..ANYWHERE
     },
     Row {
         before: &[Is(".")],
         at: &[Is(".")],
-        sentence: "One dot stands between an object and its member.",
+        sentence: "One dot is between an object and its member.",
         example: "basic.pause(100)",
         ..ANYWHERE
     },
     Row {
         before: &[Is("basic")],
         at: &[Is(",")],
-        sentence: "Between an object and its member stands a dot.",
+        sentence: "Between an object and its member is a dot.",
         example: "basic.pause(100)",
         ..ANYWHERE
     },
@@ -569,7 +569,7 @@ static FORMS_8: [Row; 10] = [
     Row {
         before: &[Is("led")],
         at: &[Is(",")],
-        sentence: "Between an object and its member stands a dot.",
+        sentence: "Between an object and its member is a dot.",
         example: "led.plot(2, 2)",
         ..ANYWHERE
     },
@@ -577,7 +577,7 @@ static FORMS_8: [Row; 10] = [
         line: &[Is("basic")],
         alone: true,
         at: &[Is(":")],
-        sentence: "Between an object and its member stands a dot.",
+        sentence: "Between an object and its member is a dot.",
         example: "basic.pause(100)",
         ..ANYWHERE
     },
@@ -585,7 +585,7 @@ static FORMS_8: [Row; 10] = [
         line: &[Is("led")],
         alone: true,
         at: &[Is(":")],
-        sentence: "Between an object and its member stands a dot.",
+        sentence: "Between an object and its member is a dot.",
         example: "led.plot(2, 2)",
         ..ANYWHERE
     },
@@ -601,14 +601,14 @@ static FORMS_8: [Row; 10] = [
         line: &[Is("class")],
         before: &[Name],
         at: &[Is(":")],
-        sentence: "There is no `:` behind a class's name: its members stand in `{ }`.",
+        sentence: "There is no `:` after a class's name: its members are in `{ }`.",
         example: "class A { x = 5 }",
         ..ANYWHERE
     },
     Row {
         before: &[Is("class"), Name],
         at: &[Is("(")],
-        sentence: "What a class is based on stands behind `extends`; its parameters are those of `constructor`.",
+        sentence: "What a class is based on is after `extends`; its parameters are those of `constructor`.",
         example: "class B extends A { }",
         ..ANYWHERE
     },
@@ -631,14 +631,14 @@ static FORMS_8: [Row; 10] = [
     Row {
         before: &[Is("."), Name],
         at: &[Number],
-        sentence: "What a call is given stands in parentheses.",
+        sentence: "What a call is given is in parentheses.",
         example: "basic.pause(100)",
         ..ANYWHERE
     },
     Row {
         before: &[Is("."), Name],
         at: &[Text],
-        sentence: "What a call is given stands in parentheses.",
+        sentence: "What a call is given is in parentheses.",
         example: "serial.writeLine(\"x\")",
         ..ANYWHERE
     },
@@ -660,28 +660,28 @@ static FORMS_9: [Row; 10] = [
     Row {
         before: &[Is("Button"), Is("."), Name],
         at: &[Is("{")],
-        sentence: "A comma stands behind the button, and then a handler: `function () {`.",
+        sentence: "A comma is after the button, and then a handler: `function () {`.",
         example: "input.onButtonPressed(Button.A, function () { })",
         ..ANYWHERE
     },
     Row {
         before: &[Is("."), Name],
         at: &[Is("{")],
-        sentence: "What a call is given stands in `( )`.",
+        sentence: "What a call is given is in `( )`.",
         example: "basic.pause(100)",
         ..ANYWHERE
     },
     Row {
         before: &[Is(".")],
         at: &[Number],
-        sentence: "An item of a list stands in `[ ]`.",
+        sentence: "An item of a list is in `[ ]`.",
         example: "let b = a[0]",
         ..ANYWHERE
     },
     Row {
         before: &[Is("led"), Is("."), Is("plot"), Is("["), Number],
         at: &[Is(",")],
-        sentence: "What a call is given stands in `( )`.",
+        sentence: "What a call is given is in `( )`.",
         example: "led.plot(1, 2)",
         ..ANYWHERE
     },
@@ -689,7 +689,7 @@ static FORMS_9: [Row; 10] = [
         before: &[Is("["), Number],
         at: &[Is(",")],
         inside: Bracket(b'['),
-        sentence: "A list in a list has its items behind each other, each index in brackets of its own.",
+        sentence: "A list in a list has its items one after the other, each index in brackets of its own.",
         example: "let b = a[1][2]",
         ..ANYWHERE
     },
@@ -731,50 +731,50 @@ static FORMS_10: [Row; 10] = [
     Row {
         before: &[Is("extends")],
         at: &[Is("{")],
-        sentence: "The name of the base is missing behind `extends`.",
+        sentence: "The name of the base is missing after `extends`.",
         example: "class B extends A { }",
         ..ANYWHERE
     },
     Row {
         before: &[Is(",")],
         at: &[Is(")")],
-        sentence: "A comma stands between two arguments alone: take it out, or write what is missing behind it.",
+        sentence: "A comma is between two arguments alone: take it out, or write what is missing after it.",
         example: "basic.pause(100)",
         ..ANYWHERE
     },
     Row {
         at: &[Is("return")],
-        sentence: "`return` stands in a function, a method or a handler alone.",
+        sentence: "`return` is in a function, a method or a handler alone.",
         example: "function f(): number { return 5 }",
         ..ANYWHERE
     },
     Row {
         at: &[Is("break")],
-        sentence: "`break` stands in a loop alone.",
+        sentence: "`break` is in a loop alone.",
         example: "while (true) { break }",
         ..ANYWHERE
     },
     Row {
         at: &[Is("continue")],
-        sentence: "`continue` stands in a loop alone.",
+        sentence: "`continue` is in a loop alone.",
         example: "while (true) { continue }",
         ..ANYWHERE
     },
     Row {
         at: &[Is("public")],
-        sentence: "`public` stands before a member of a class alone: declare by `let`.",
+        sentence: "`public` is before a member of a class alone: declare by `let`.",
         example: "let x = 1",
         ..ANYWHERE
     },
     Row {
         at: &[Is("private")],
-        sentence: "`private` stands before a member of a class alone: declare by `let`.",
+        sentence: "`private` is before a member of a class alone: declare by `let`.",
         example: "let x = 1",
         ..ANYWHERE
     },
     Row {
         before: &[Is("new"), Name],
-        sentence: "Parentheses stand behind the class's name, also where there are no arguments.",
+        sentence: "Parentheses are after the class's name, also where there are no arguments.",
         example: "let p = new P()",
         ..ANYWHERE
     },

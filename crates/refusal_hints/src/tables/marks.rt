@@ -12,7 +12,7 @@ static BODIES: [Row; 3] = [
     Row {
         before: &[Is("function"), Name, Is("("), Is(")")],
         at: &[Is("return")],
-        sentence: "The body of a function stands in `{ }`, also where it is one statement.",
+        sentence: "The body of a function is in `{ }`, also where it is one statement.",
         example: "function f(): number { return 5 }",
         ..ANYWHERE
     },
@@ -20,14 +20,14 @@ static BODIES: [Row; 3] = [
         line: &[Is("function")],
         before: &[Is(")")],
         at: &[Is("return")],
-        sentence: "The body of a function stands in `{ }`, also where it is one statement.",
+        sentence: "The body of a function is in `{ }`, also where it is one statement.",
         example: "function f(): number { return 5 }",
         ..ANYWHERE
     },
     Row {
         before: &[Is(")"), Is(":"), Name],
         at: &[Is("return")],
-        sentence: "The body of a function stands in `{ }`, also where it is one statement.",
+        sentence: "The body of a function is in `{ }`, also where it is one statement.",
         example: "function f(): number { return 5 }",
         ..ANYWHERE
     },
@@ -42,7 +42,7 @@ static MARKS_1: [Row; 10] = [
     Row {
         last: true,
         inside: Unclosed(b'{'),
-        sentence: "A `{` isn't closed: a `}` is missing, here at the end at the latest. The first line that stands less far in than it should shows where.",
+        sentence: "A `{` isn't closed: a `}` is missing, here at the end at the latest. The first line that is less far in than it should shows where.",
         example: "if (true) { basic.pause(1) }",
         ..ANYWHERE
     },
@@ -63,7 +63,7 @@ static MARKS_1: [Row; 10] = [
     Row {
         at: &[Is(")")],
         inside: Unclosed(b'{'),
-        sentence: "A `{` isn't closed: a `}` is missing before this `)`. The first line that stands less far in than it should shows where.",
+        sentence: "A `{` isn't closed: a `}` is missing before this `)`. The first line that is less far in than it should shows where.",
         example: "basic.forever(function () { basic.pause(1) })",
         ..ANYWHERE
     },
@@ -98,14 +98,14 @@ static MARKS_1: [Row; 10] = [
     Row {
         before: &[Is(",")],
         at: &[Is("]")],
-        sentence: "A comma stands between two items alone: take it out, or write what is missing behind it.",
+        sentence: "A comma is between two items alone: take it out, or write what is missing after it.",
         example: "let a = [1, 2]",
         ..ANYWHERE
     },
     Row {
         before: &[Is("function"), Name, Is("("), Is(")")],
         at: &[Any],
-        sentence: "The body of a function stands in `{ }`, also where it is one statement.",
+        sentence: "The body of a function is in `{ }`, also where it is one statement.",
         example: "function f(): void { }",
         ..ANYWHERE
     },
@@ -193,7 +193,7 @@ static MARKS_3: [Row; 10] = [
     Row {
         before: &[Number],
         at: &[Is("=")],
-        sentence: "What is set stands on the left of `=`.",
+        sentence: "What is set is on the left of `=`.",
         example: "x = 5",
         ..ANYWHERE
     },
@@ -206,19 +206,19 @@ static MARKS_3: [Row; 10] = [
     },
     Row {
         before: &[Is("++"), Name, Is("++")],
-        sentence: "`++` stands before a name or behind it, not on both sides.",
+        sentence: "`++` is before a name or after it, not on both sides.",
         example: "a++",
         ..ANYWHERE
     },
     Row {
         before: &[Is("--"), Name, Is("--")],
-        sentence: "`--` stands before a name or behind it, not on both sides.",
+        sentence: "`--` is before a name or after it, not on both sides.",
         example: "a--",
         ..ANYWHERE
     },
     Row {
         before: &[Sign],
-        sentence: "A value is missing behind this sign.",
+        sentence: "A value is missing after this sign.",
         example: "let x = 5 + 3",
         ..ANYWHERE
     },
@@ -313,7 +313,7 @@ static MARKS_4: [Row; 10] = [
         before: &[Text],
         at: &[Text],
         inside: Bracket(b'('),
-        sentence: "Texts aren't joined: a call of the board takes one text. Between two arguments stands a comma.",
+        sentence: "Texts aren't joined: a call of the board takes one text. Between two arguments is a comma.",
         example: "serial.writeString(\"a\"); serial.writeString(\"b\")",
         ..ANYWHERE
     },
@@ -321,7 +321,7 @@ static MARKS_4: [Row; 10] = [
         before: &[Text],
         at: &[Number],
         inside: Bracket(b'('),
-        sentence: "Texts aren't joined: a call of the board takes one text. Between two arguments stands a comma.",
+        sentence: "Texts aren't joined: a call of the board takes one text. Between two arguments is a comma.",
         example: "serial.writeString(\"x = \"); serial.writeNumber(5)",
         ..ANYWHERE
     },
@@ -329,7 +329,7 @@ static MARKS_4: [Row; 10] = [
         before: &[Name],
         at: &[Text],
         inside: Bracket(b'('),
-        sentence: "Texts aren't joined: a call of the board takes one text. Between two arguments stands a comma.",
+        sentence: "Texts aren't joined: a call of the board takes one text. Between two arguments is a comma.",
         example: "serial.writeNumber(x); serial.writeString(\" points\")",
         ..ANYWHERE
     },
@@ -388,7 +388,7 @@ static MARKS_5: [Row; 9] = [
     Row {
         before: &[Is(")")],
         at: &[Is("{")],
-        sentence: "A `{` stands here behind a closed `)`: behind `else` stands no test, and the handler of a call stands within its parentheses.",
+        sentence: "A `{` is here after a closed `)`: after `else` comes no test, and the handler of a call is within its parentheses.",
         example: "basic.forever(function () { })",
         ..ANYWHERE
     },
@@ -409,7 +409,7 @@ static MARKS_5: [Row; 9] = [
     Row {
         before: &[Name],
         at: &[Name],
-        sentence: "Two names stand side by side: a statement ends where its line ends, or with `;`; or a sign is missing between these two.",
+        sentence: "Two names are side by side: a statement ends where its line ends, or with `;`; or a sign is missing between these two.",
         example: "x = y; y = z",
         ..ANYWHERE
     },

@@ -88,25 +88,25 @@ static NAMES_2: [Row; 9] = [
     },
     Row {
         at: &[Is("Math"), Is("."), Is("random")],
-        sentence: "`Math` has no `random`: nothing is by chance, so that a run can be told beforehand. Step a seed on, and take `(seed >> 16) % 6` of it; the low bits alone repeat.",
+        sentence: "`Math` has no `random`: nothing is by chance, so that a run can be known beforehand. Step a seed on, and take `(seed >> 16) % 6` of it; the low bits alone repeat.",
         example: "seed = (seed * 1103515245 + 12345) & 0x7fffffff",
         ..ANYWHERE
     },
     Row {
         at: &[Is("Math"), Is("."), Is("randomRange")],
-        sentence: "`Math` has no `randomRange`: nothing is by chance, so that a run can be told beforehand. Step a seed on, and take `(seed >> 16) % 6` of it; the low bits alone repeat.",
+        sentence: "`Math` has no `randomRange`: nothing is by chance, so that a run can be known beforehand. Step a seed on, and take `(seed >> 16) % 6` of it; the low bits alone repeat.",
         example: "seed = (seed * 1103515245 + 12345) & 0x7fffffff",
         ..ANYWHERE
     },
     Row {
         at: &[Is("randint")],
-        sentence: "There is no `randint`: nothing is by chance, so that a run can be told beforehand. Step a seed on, and take `(seed >> 16) % 6` of it; the low bits alone repeat.",
+        sentence: "There is no `randint`: nothing is by chance, so that a run can be known beforehand. Step a seed on, and take `(seed >> 16) % 6` of it; the low bits alone repeat.",
         example: "seed = (seed * 1103515245 + 12345) & 0x7fffffff",
         ..ANYWHERE
     },
     Row {
         at: &[Is("Math"), Is("."), Is("floor")],
-        sentence: "Numbers are whole, so there is no `Math.floor`: `/` cuts off what is behind the point.",
+        sentence: "Numbers are whole, so there is no `Math.floor`: `/` cuts off what is after the point.",
         example: "let x = 7 / 2",
         ..ANYWHERE
     },
@@ -174,25 +174,25 @@ static NAMES_3: [Row; 10] = [
     },
     Row {
         at: &[Is("input"), Is("."), Is("onGesture")],
-        sentence: "The board has no sensor for `onGesture`: a script's `raise` stands for it, heard by `control.onEvent`.",
+        sentence: "The board has no sensor for `onGesture`: a script's `raise` is in its place, heard by `control.onEvent`.",
         example: "control.onEvent(50, 1, function () { })",
         ..ANYWHERE
     },
     Row {
         at: &[Is("input"), Is("."), Is("onPinPressed")],
-        sentence: "The board has no `onPinPressed`: a script's `raise` stands for it, heard by `control.onEvent`.",
+        sentence: "The board has no `onPinPressed`: a script's `raise` is in its place, heard by `control.onEvent`.",
         example: "control.onEvent(50, 1, function () { })",
         ..ANYWHERE
     },
     Row {
         at: &[Is("input"), Is("."), Is("temperature")],
-        sentence: "The board has no sensor for `temperature`: a script's `raise` brings a number, told by `control.eventValue`.",
+        sentence: "The board has no sensor for `temperature`: a script's `raise` brings a number, given by `control.eventValue`.",
         example: "control.onEvent(50, 0, function () { serial.writeNumber(control.eventValue()) })",
         ..ANYWHERE
     },
     Row {
         at: &[Is("input"), Is("."), Is("lightLevel")],
-        sentence: "The board has no sensor for `lightLevel`: a script's `raise` brings a number, told by `control.eventValue`.",
+        sentence: "The board has no sensor for `lightLevel`: a script's `raise` brings a number, given by `control.eventValue`.",
         example: "control.onEvent(50, 0, function () { serial.writeNumber(control.eventValue()) })",
         ..ANYWHERE
     },
@@ -206,13 +206,13 @@ pub fn names_4() -> &'static [Row] {
 static NAMES_4: [Row; 9] = [
     Row {
         at: &[Is("input"), Is("."), Is("acceleration")],
-        sentence: "The board has no sensor for `acceleration`: a script's `raise` brings a number, told by `control.eventValue`.",
+        sentence: "The board has no sensor for `acceleration`: a script's `raise` brings a number, given by `control.eventValue`.",
         example: "control.onEvent(50, 0, function () { serial.writeNumber(control.eventValue()) })",
         ..ANYWHERE
     },
     Row {
         at: &[Is("radio"), Is("."), Is("onReceivedNumber")],
-        sentence: "`radio` has no `onReceivedNumber`: what others send is an event of source 200, told by `control.eventValue`.",
+        sentence: "`radio` has no `onReceivedNumber`: what others send is an event of source 200, given by `control.eventValue`.",
         example: "control.onEvent(200, 0, function () { serial.writeNumber(control.eventValue()) })",
         ..ANYWHERE
     },
@@ -455,14 +455,14 @@ static NAMES_7: [Row; 10] = [
     Row {
         before: &[Is(":")],
         at: &[Is("array")],
-        sentence: "A list's type is written with `[]` behind that of its items.",
+        sentence: "A list's type is written with `[]` after that of its items.",
         example: "let a: number[] = []",
         ..ANYWHERE
     },
     Row {
         before: &[Is(":")],
         at: &[Is("Array")],
-        sentence: "A list's type is written with `[]` behind that of its items.",
+        sentence: "A list's type is written with `[]` after that of its items.",
         example: "let a: number[] = []",
         ..ANYWHERE
     },
@@ -525,7 +525,7 @@ static NAMES_8: [Row; 9] = [
     },
     Row {
         at: &[Is("this")],
-        sentence: "`this` stands in a class's methods and in its constructor alone.",
+        sentence: "`this` is in a class's methods and in its constructor alone.",
         example: "class A { x = 1; f(): void { this.x = 2 } }",
         ..ANYWHERE
     },
@@ -539,7 +539,7 @@ pub fn names_9() -> &'static [Row] {
 static NAMES_9: [Row; 10] = [
     Row {
         at: &[Is("super")],
-        sentence: "`super` stands in a class with a base alone.",
+        sentence: "`super` is in a class with a base alone.",
         example: "class B extends A { f(): void { super.f() } }",
         ..ANYWHERE
     },
@@ -627,13 +627,13 @@ static NAMES_10: [Row; 9] = [
     },
     Row {
         at: &[Name, Is("."), Is("add"), Is("(")],
-        sentence: "A list has no `add`: an item is put behind its last one by `push`.",
+        sentence: "A list has no `add`: an item is put after its last one by `push`.",
         example: "a.push(2)",
         ..ANYWHERE
     },
     Row {
         at: &[Name, Is("."), Is("append"), Is("(")],
-        sentence: "A list has no `append`: an item is put behind its last one by `push`.",
+        sentence: "A list has no `append`: an item is put after its last one by `push`.",
         example: "a.push(2)",
         ..ANYWHERE
     },
@@ -678,21 +678,21 @@ static NAMES_11: [Row; 9] = [
     Row {
         before: &[Is("showString"), Is("(")],
         at: &[Name],
-        sentence: "A text stands in quotes: without them it is a name, and none is known that is written so.",
+        sentence: "A text is in quotes: without them it is a name, and none is known that is written so.",
         example: "basic.showString(\"HELLO\")",
         ..ANYWHERE
     },
     Row {
         before: &[Is("writeString"), Is("(")],
         at: &[Name],
-        sentence: "A text stands in quotes: without them it is a name, and none is known that is written so.",
+        sentence: "A text is in quotes: without them it is a name, and none is known that is written so.",
         example: "serial.writeString(\"hello\")",
         ..ANYWHERE
     },
     Row {
         before: &[Is("writeLine"), Is("(")],
         at: &[Name],
-        sentence: "A text stands in quotes: without them it is a name, and none is known that is written so.",
+        sentence: "A text is in quotes: without them it is a name, and none is known that is written so.",
         example: "serial.writeLine(\"hello\")",
         ..ANYWHERE
     },
@@ -717,7 +717,7 @@ static NAMES_11: [Row; 9] = [
     },
     Row {
         at: &[Name, Is("."), Any],
-        sentence: "Such a member isn't here, or the name before the dot isn't known: see upper and lower case.",
+        sentence: "Such a member isn't here, or the name before the dot isn't known: see upper and lower case. If that is a class, make an object of it by `new`.",
         example: "",
         ..ANYWHERE
     },

@@ -12,14 +12,14 @@ static TWICE: [Row; 3] = [
     Row {
         before: &[Is("let")],
         at: &[Name],
-        sentence: "The name stands twice: to set it anew leave `let` out.",
+        sentence: "The name is there twice: to set it anew leave `let` out.",
         example: "a = 2",
         ..ANYWHERE
     },
     Row {
         before: &[Is("const")],
         at: &[Name],
-        sentence: "The name stands twice, and a `const` is never set anew: give one of them another name.",
+        sentence: "The name is there twice, and a `const` is never set anew: give one of them another name.",
         example: "const second = 2",
         ..ANYWHERE
     },
@@ -90,7 +90,7 @@ static UNTOLD: [Row; 8] = [
     Row {
         before: &[Is("."), Name, Is("(")],
         at: &[Name],
-        sentence: "The type of this name can't be told: `for` .. `of` goes through a list alone, and a name gets its type from its value, or from what is written behind a `:`.",
+        sentence: "The type of this name isn't known: `for` .. `of` goes through a list alone, and a name gets its type from its value, or from what is written after a `:`.",
         example: "for (let x of [1, 2]) { basic.showNumber(x) }",
         ..ANYWHERE
     },
@@ -204,7 +204,7 @@ static HANDLERS_1: [Row; 10] = [
     },
     Row {
         at: &[Is("control"), Is("."), Is("onEvent"), Is("(")],
-        sentence: "`control.onEvent` takes a source, a value and a handler: a function without parameters that gives no value. What came is told by `control.eventValue()`.",
+        sentence: "`control.onEvent` takes a source, a value and a handler: a function without parameters that gives no value. What came is given by `control.eventValue()`.",
         example: "control.onEvent(200, 0, function () { serial.writeNumber(control.eventValue()) })",
         ..ANYWHERE
     },
@@ -218,63 +218,63 @@ pub fn handlers_2() -> &'static [Row] {
 static HANDLERS_2: [Row; 10] = [
     Row {
         at: &[Is("control"), Is("."), Is("onEventFlags"), Is("(")],
-        sentence: "`control.onEventFlags` takes a source, a value, a handler and flags. A handler is a function without parameters that gives no value: what came is told by `control.eventValue()`.",
+        sentence: "`control.onEventFlags` takes a source, a value, a handler and flags. A handler is a function without parameters that gives no value: what came is given by `control.eventValue()`.",
         example: "control.onEventFlags(50, 1, function () { }, EventFlags.DropIfBusy)",
         ..ANYWHERE
     },
     Row {
         at: &[Name, Is("."), Name, Is("[")],
-        sentence: "What a call is given stands in `( )`.",
+        sentence: "What a call is given is in `( )`.",
         example: "basic.pause(100)",
         ..ANYWHERE
     },
     Row {
         at: &[Name, Is("."), Name, Is("=")],
-        sentence: "A call of the board is no variable: what it is given stands in `( )`.",
+        sentence: "A call of the board is no variable: what it is given is in `( )`.",
         example: "led.plot(2, 2)",
         ..ANYWHERE
     },
     Row {
         at: &[Name, Is("."), Name, Is("(")],
-        sentence: "What stands before the dot is a function of the program, which has no members. If the board is meant: the function's name hides the board's, so give it another.",
+        sentence: "What is before the dot is a function of the program, which has no members. If the board is meant: the function's name hides the board's, so give it another.",
         example: "function lights(): void { }",
         ..ANYWHERE
     },
     Row {
         at: &[Name, Is("."), Name],
-        sentence: "A call has parentheses behind its name, also where it is given nothing.",
+        sentence: "A call has parentheses after its name, also where it is given nothing.",
         example: "basic.clearScreen()",
         ..ANYWHERE
     },
     Row {
         line: &[Is("control"), Is("."), Is("onEvent"), Is("(")],
         inside: Bracket(b'('),
-        sentence: "`control.onEvent` takes a source, a value and a handler: a function without parameters that gives no value. What came is told by `control.eventValue()`.",
+        sentence: "`control.onEvent` takes a source, a value and a handler: a function without parameters that gives no value. What came is given by `control.eventValue()`.",
         example: "control.onEvent(200, 0, function () { serial.writeNumber(control.eventValue()) })",
         ..ANYWHERE
     },
     Row {
         line: &[Is("control"), Is("."), Is("onEventFlags"), Is("(")],
         inside: Bracket(b'('),
-        sentence: "`control.onEventFlags` takes a source, a value, a handler and flags. A handler is a function without parameters that gives no value: what came is told by `control.eventValue()`.",
+        sentence: "`control.onEventFlags` takes a source, a value, a handler and flags. A handler is a function without parameters that gives no value: what came is given by `control.eventValue()`.",
         example: "control.onEventFlags(50, 1, function () { }, EventFlags.DropIfBusy)",
         ..ANYWHERE
     },
     Row {
         at: &[Is("function")],
-        sentence: "A function without a name stands as a handler in a call alone: write it by its name.",
+        sentence: "A function without a name is a handler in a call alone: write it by its name.",
         example: "function f(): void { }",
         ..ANYWHERE
     },
     Row {
         at: &[Is("(")],
-        sentence: "An arrow stands as a handler in a call alone: write a function by its name.",
+        sentence: "An arrow is a handler in a call alone: write a function by its name.",
         example: "function f(): void { }",
         ..ANYWHERE
     },
     Row {
         at: &[Name],
-        sentence: "A function is no value: parentheses behind its name call it.",
+        sentence: "A function is no value: parentheses after its name call it.",
         example: "f()",
         ..ANYWHERE
     },

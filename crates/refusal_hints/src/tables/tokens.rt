@@ -10,31 +10,31 @@ pub fn characters_1() -> &'static [Row] {
 static CHARACTERS_1: [Row; 10] = [
     Row {
         at: &[Is("“")],
-        sentence: "A text stands in straight quotes, `\"` or `'`: the curved ones of a word processor are no quotes.",
+        sentence: "A text is in straight quotes, `\"` or `'`: the curved ones of a word processor are no quotes.",
         example: "basic.showString(\"HELLO\")",
         ..ANYWHERE
     },
     Row {
         at: &[Is("”")],
-        sentence: "A text stands in straight quotes, `\"` or `'`: the curved ones of a word processor are no quotes.",
+        sentence: "A text is in straight quotes, `\"` or `'`: the curved ones of a word processor are no quotes.",
         example: "basic.showString(\"HELLO\")",
         ..ANYWHERE
     },
     Row {
         at: &[Is("„")],
-        sentence: "A text stands in straight quotes, `\"` or `'`: the curved ones of a word processor are no quotes.",
+        sentence: "A text is in straight quotes, `\"` or `'`: the curved ones of a word processor are no quotes.",
         example: "basic.showString(\"HELLO\")",
         ..ANYWHERE
     },
     Row {
         at: &[Is("‘")],
-        sentence: "A text stands in straight quotes, `\"` or `'`: the curved ones of a word processor are no quotes.",
+        sentence: "A text is in straight quotes, `\"` or `'`: the curved ones of a word processor are no quotes.",
         example: "basic.showString(\"HELLO\")",
         ..ANYWHERE
     },
     Row {
         at: &[Is("’")],
-        sentence: "A text stands in straight quotes, `\"` or `'`: the curved ones of a word processor are no quotes.",
+        sentence: "A text is in straight quotes, `\"` or `'`: the curved ones of a word processor are no quotes.",
         example: "basic.showString(\"HELLO\")",
         ..ANYWHERE
     },
@@ -64,7 +64,7 @@ static CHARACTERS_1: [Row; 10] = [
     },
     Row {
         at: &[Is("÷")],
-        sentence: "Divided by is written `/`; what is behind the point is cut off.",
+        sentence: "Divided by is written `/`; what is after the point is cut off.",
         example: "let x = 7 / 2",
         ..ANYWHERE
     },
@@ -96,13 +96,13 @@ static CHARACTERS_2: [Row; 9] = [
     },
     Row {
         at: &[Is("\u{a0}")],
-        sentence: "A space stands there that isn't the plain one, as web pages have them: write a plain one in its place.",
+        sentence: "A space is there that isn't the plain one, as web pages have them: write a plain one in its place.",
         example: "",
         ..ANYWHERE
     },
     Row {
         at: &[Foreign],
-        sentence: "Names have letters from `A` to `Z` and `a` to `z`, digits, `_` and `$` alone. Other letters and signs stand in texts and comments only.",
+        sentence: "Names have letters from `A` to `Z` and `a` to `z`, digits, `_` and `$` alone. Other letters and signs are in texts and comments only.",
         example: "let groesse = 5",
         ..ANYWHERE
     },
@@ -120,7 +120,7 @@ static CHARACTERS_2: [Row; 9] = [
     },
     Row {
         at: &[Is("\\")],
-        sentence: "A backslash stands in texts alone. Divided by is written `/`.",
+        sentence: "A backslash is in texts alone. Divided by is written `/`.",
         example: "let x = 7 / 2",
         ..ANYWHERE
     },
@@ -180,13 +180,13 @@ static NUMBERS: [Row; 10] = [
     },
     Row {
         at: &[With(b'x')],
-        sentence: "A number that begins with `0x` goes on with digits from `0` to `9` and `A` to `F`, and is at most `0xFFFFFFFF`.",
+        sentence: "A number is digits alone: times is written `*`. One that begins with `0x` goes on with digits from `0` to `9` and `A` to `F`, and is at most `0xFFFFFFFF`.",
         example: "let x = 0xFF",
         ..ANYWHERE
     },
     Row {
         at: &[With(b'b')],
-        sentence: "There are no numbers in base 2: write it in base 10, or behind `0x` in base 16.",
+        sentence: "There are no numbers in base 2: write it in base 10, or after `0x` in base 16.",
         example: "let x = 5",
         ..ANYWHERE
     },
@@ -198,7 +198,7 @@ static NUMBERS: [Row; 10] = [
     },
     Row {
         at: &[Number],
-        sentence: "A number is at most 4294967295, and is written without a 0 before it and without letters behind it.",
+        sentence: "A number is at most 4294967295, and is written without a 0 before it and without letters after it.",
         example: "let x = 15",
         ..ANYWHERE
     },
@@ -219,7 +219,7 @@ static TEXTS: [Row; 5] = [
     Row {
         before: &[Is("showLeds"), Is("(")],
         at: &[Open],
-        sentence: "A picture of several lines stands in backquotes, ` at its beginning and at its end, not in `\"` or `'`.",
+        sentence: "A picture of several lines is in backquotes, ` at its beginning and at its end, not in `\"` or `'`.",
         example: "",
         ..ANYWHERE
     },
@@ -238,7 +238,7 @@ static TEXTS: [Row; 5] = [
     },
     Row {
         at: &[With(b'\\')],
-        sentence: "Behind a backslash in a text stands `n`, `r`, `t`, a backslash or a quote. For a backslash itself write two.",
+        sentence: "After a backslash in a text comes `n`, `r`, `t`, a backslash or a quote. For a backslash itself write two.",
         example: "let s = \"a\\\\b\"",
         ..ANYWHERE
     },

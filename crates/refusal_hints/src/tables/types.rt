@@ -10,49 +10,49 @@ pub fn orders() -> &'static [Row] {
 static ORDERS: [Row; 8] = [
     Row {
         at: &[Text, Is("<")],
-        sentence: "Texts have no order: `==` and `!=` compare them. A number stands without quotes.",
+        sentence: "Texts have no order: `==` and `!=` compare them. A number is without quotes.",
         example: "if (s == \"b\") { }",
         ..ANYWHERE
     },
     Row {
         at: &[Any, Is("<"), Text],
-        sentence: "Texts have no order: `==` and `!=` compare them. A number stands without quotes.",
+        sentence: "Texts have no order: `==` and `!=` compare them. A number is without quotes.",
         example: "if (s == \"b\") { }",
         ..ANYWHERE
     },
     Row {
         at: &[Text, Is("<=")],
-        sentence: "Texts have no order: `==` and `!=` compare them. A number stands without quotes.",
+        sentence: "Texts have no order: `==` and `!=` compare them. A number is without quotes.",
         example: "if (s == \"b\") { }",
         ..ANYWHERE
     },
     Row {
         at: &[Any, Is("<="), Text],
-        sentence: "Texts have no order: `==` and `!=` compare them. A number stands without quotes.",
+        sentence: "Texts have no order: `==` and `!=` compare them. A number is without quotes.",
         example: "if (s == \"b\") { }",
         ..ANYWHERE
     },
     Row {
         at: &[Text, Is(">")],
-        sentence: "Texts have no order: `==` and `!=` compare them. A number stands without quotes.",
+        sentence: "Texts have no order: `==` and `!=` compare them. A number is without quotes.",
         example: "if (s == \"b\") { }",
         ..ANYWHERE
     },
     Row {
         at: &[Any, Is(">"), Text],
-        sentence: "Texts have no order: `==` and `!=` compare them. A number stands without quotes.",
+        sentence: "Texts have no order: `==` and `!=` compare them. A number is without quotes.",
         example: "if (s == \"b\") { }",
         ..ANYWHERE
     },
     Row {
         at: &[Text, Is(">=")],
-        sentence: "Texts have no order: `==` and `!=` compare them. A number stands without quotes.",
+        sentence: "Texts have no order: `==` and `!=` compare them. A number is without quotes.",
         example: "if (s == \"b\") { }",
         ..ANYWHERE
     },
     Row {
         at: &[Any, Is(">="), Text],
-        sentence: "Texts have no order: `==` and `!=` compare them. A number stands without quotes.",
+        sentence: "Texts have no order: `==` and `!=` compare them. A number is without quotes.",
         example: "if (s == \"b\") { }",
         ..ANYWHERE
     },
@@ -90,13 +90,13 @@ static TYPES_1: [Row; 10] = [
     },
     Row {
         at: &[Any, Is("?")],
-        sentence: "What stands before `?` is true or false, and the two values behind it have one type; for a number write a comparison.",
+        sentence: "What is before `?` is true or false, and the two values after it have one type; for a number write a comparison.",
         example: "let a = n != 0 ? 2 : 3",
         ..ANYWHERE
     },
     Row {
         at: &[Text, Is("=="), Any],
-        sentence: "The two sides of a comparison have one type: a number or a text stands on both.",
+        sentence: "The two sides of a comparison have one type: a number or a text is on both.",
         example: "let same = n == 1",
         ..ANYWHERE
     },
@@ -241,14 +241,14 @@ static TYPES_3: [Row; 10] = [
     Row {
         before: &[Is("let")],
         at: &[Name, Is(":"), Is("string")],
-        sentence: "The value isn't of the type that is written: a text stands in quotes.",
+        sentence: "The value isn't of the type that is written: a text is in quotes.",
         example: "let s: string = \"5\"",
         ..ANYWHERE
     },
     Row {
         before: &[Is("let")],
         at: &[Name, Is(":"), Is("number"), Is("="), Text],
-        sentence: "The value isn't of the type that is written: a number stands without quotes.",
+        sentence: "The value isn't of the type that is written: a number is without quotes.",
         example: "let x: number = 5",
         ..ANYWHERE
     },
@@ -300,7 +300,7 @@ static TYPES_4: [Row; 10] = [
     },
     Row {
         at: &[Name, Is("."), Is("length"), Is("(")],
-        sentence: "`length` stands without parentheses.",
+        sentence: "`length` is without parentheses.",
         example: "serial.writeNumber(a.length)",
         ..ANYWHERE
     },
