@@ -2,19 +2,17 @@
 #![tactic(auto)]
 
 mod page;
-mod refusal;
 mod words;
 
+use explained_view::{view_explained, view_plain};
 use page::{PAGE_HEAD, PAGE_TAIL};
-use refusal::first_refusal;
 use std::alloc::Global;
 use std::env;
 use std::io::{ErrorKind, Read};
 use std::process::ExitCode;
 use tool_folder::{DiskFolder, FetchFault, Folder, Found, read_up_to};
 use tool_io::{PutFailed, Sink, StdSink};
-use transcript_view::{ViewFault, view_page, view_text};
-use view_forms::{Below, NOTES};
+use transcript_view::{ViewFault, view_page};
 use words::{Asked, read_words};
 
 /// The statuses are those of `sts`.
@@ -80,44 +78,9 @@ fn program_of<D: Folder>(
     }
 }
 
-/// Writes the view as a text, with what explains lines below them. The sentences of lines are named here alone: the proof of a function that names a
-/// long table takes a minute.
-fn write_text<K: Sink>(
-    alloc: Global,
-    below: &[Below<'_>],
-    input: &[u8],
-    width: usize,
-    out: &mut K,
-) -> Result<(), ViewFault> {
-    view_text(alloc, &NOTES, below, input, width, out)
-}
-
 /// Writes the view as a page.
 fn write_page<K: Sink>(alloc: Global, input: &[u8], out: &mut K) -> Result<(), ViewFault> {
     view_page(alloc, PAGE_HEAD, PAGE_TAIL, input, out)
-}
-
-/// Writes the text that explains the first refusal by a program's text.
-fn write_explained<K: Sink>(
-    alloc: Global,
-    width: usize,
-    input: &[u8],
-    program: &[u8],
-    out: &mut K,
-) -> Result<(), ViewFault> {
-    let Some(refusal) = first_refusal(input) else {
-        return write_text(alloc, &[], input, width, out);
-    };
-    match refusal.explained(alloc, program) {
-        Err(_) => Err(ViewFault::NoMemory),
-        Ok(text) => {
-            let below = [Below {
-                line: refusal.told,
-                text: text.as_bytes(),
-            }];
-            write_text(alloc, &below, input, width, out)
-        }
-    }
 }
 
 /// Writes the view that was asked for, and gives the status.
@@ -129,9 +92,9 @@ fn write_view<K: Sink>(
     out: &mut K,
 ) -> u8 {
     let written = match program {
-        Some(text) => write_explained(alloc, asked.width, input, text, out),
+        Some(text) => view_explained(alloc, text, input, asked.width, out),
         None if asked.html => write_page(alloc, input, out),
-        None => write_text(alloc, &[], input, asked.width, out),
+        None => view_plain(alloc, input, asked.width, out),
     };
     match written {
         Ok(()) => 0,
