@@ -245,11 +245,13 @@ class Tries:
             self.wrong.judge("what it leaves", left, [])
 
     def odd_paths(self):
-        for inner in ("a&b", "a#b", "a\\b", "a\nb", "a b'c\"d", os.fsdecode(b"a\xffb"), "a\n"):
+        for inner in ("a&b", "a#b", "a\\b", "a\nb", "a b'c\"d", "a=b", "a:b,c", "a\n"):
             with self.tree(inner) as tree:
                 self.wrong.judge(f"a checkout in {inner!r}", tree.prove(), (0, ["low one", "sts main"]))
                 self.wrong.judge(f"a checkout in {inner!r}, once more", tree.prove(), (0, []))
                 self.wrong.judge(f"a checkout in {inner!r}, whether the program is taken", tree.is_taken(), True)
+        with self.tree(os.fsdecode(b"a\xffb")) as tree:
+            self.wrong.judge("a checkout in a folder whose name is no UTF-8", (tree.prove(), "UTF-8" in tree.said, tree.is_taken()), ((125, []), True, False))
 
 
 def read(path):
