@@ -208,7 +208,7 @@ def run(function, code):
 
 random.seed(1)
 functions = [*operators(), *flow(), *heap()]
-rows = subprocess.run([sys.argv[2]], input="".join(f"emit {it.line}\n" for it in functions), capture_output=True, text=True)
+rows = subprocess.run([sys.argv[2], "thumb_rows"], input="".join(f"emit {it.line}\n" for it in functions), capture_output=True, text=True)
 codes = rows.stdout.split("\n")[:-1]
 assert len(codes) == len(functions), rows.stderr[-500:]
 calls = wrong = 0

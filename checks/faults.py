@@ -7,10 +7,10 @@ change nothing.
 
 By `class` standard error stays silent, and its lines at the serial port have no device.
 
-`tool_rows` makes the top call over four devices in memory, each told a word before: where memory is refused it says that the call answered 30, that the sink took no more than that, and that the
+`rows tool_rows` makes the top call over four devices in memory, each told a word before: where memory is refused it says that the call answered 30, that the sink took no more than that, and that the
 devices are as they were.
 
-usage: faults.py LIBRARY STS [TOOL_ROWS]      LIBRARY is faults.c, compiled
+usage: faults.py LIBRARY STS [ROWS]      LIBRARY is faults.c, compiled
 """
 import concurrent.futures
 import os
@@ -199,14 +199,14 @@ def commands_fail(faults, sts):
     return told
 
 
-def calls_fail(faults, tool_rows):
+def calls_fail(faults, rows):
     """Each refused allocation of each row of `tool_rows`. What it takes beside the call, for its folder and the like, it misses itself: it then ends with status 1 and has said nothing."""
-    return {f"tool_rows {words}": [faults.memory(tool_rows, words, lambda status, out, _: (status, out) == (0, due), lambda status, out, _: status == 0 and out in before or (status, out) == (1, ""))]
+    return {f"tool_rows {words}": [faults.memory(rows, f"tool_rows {words}", lambda status, out, _: (status, out) == (0, due), lambda status, out, _: status == 0 and out in before or (status, out) == (1, ""))]
             for words, due, before in calls()}
 
 
 def main():
-    library, sts, *tool_rows = map(os.path.abspath, sys.argv[1:])
+    library, sts, *rows = map(os.path.abspath, sys.argv[1:])
     with tempfile.TemporaryDirectory() as folder:
         for name, text in [*FILES.items(), ("game.ts", read("game.ts")), ("game.json", read("game.json"))]:
             with open(os.path.join(folder, name), "w", encoding="ascii") as file:
@@ -215,7 +215,7 @@ def main():
             subprocess.run([sts, "build", "game.ts"], cwd=folder, stdout=file, check=True)
         faults = Faults(library, folder)
         told = commands_fail(faults, sts)
-        for program in tool_rows:
+        for program in rows:
             told.update(calls_fail(faults, program))
     for words, counts in told.items():
         print(f"faults: {words}: {counts[0]} allocations" + (f", {counts[1]} files opened, {counts[2]} reads, {counts[5]} writes and {counts[8]} to the serial port" if counts[1:] else ""))

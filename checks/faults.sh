@@ -1,7 +1,7 @@
 #!/bin/sh
-# Lets each call that can fail do so in turn, in some runs of the programs sts, as bin/program names it, and tool_rows of tests/, as bin/compile --fast makes it where it is left out (checks/faults.py).
+# Lets each call that can fail do so in turn, in some runs of the programs sts, as bin/program names it, and rows of tests/, as bin/compile --fast makes it where it is left out (checks/faults.py).
 # Without a C compiler the check is skipped (status 77).
-# usage: checks/faults.sh [STS [TOOL_ROWS]]
+# usage: checks/faults.sh [STS [ROWS]]
 set -eu
 top=$(cd "$(dirname "$0")/.." && pwd)
 program=${1:-$("$top/bin/program")}
@@ -9,7 +9,7 @@ command -v cc >/dev/null || {
     echo 'faults: there is no C compiler'
     exit 77
 }
-rows=${2:-$("$top/bin/compile" --fast tool_rows)}
+rows=${2:-$("$top/bin/compile" --fast rows)}
 folder=$(mktemp -d)
 trap 'rm -rf "$folder"' EXIT
 cc -O2 -fno-builtin -shared -fPIC "$top/checks/faults.c" -o "$folder/faults.so"

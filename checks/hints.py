@@ -27,7 +27,7 @@ def answered(asked):
     with tempfile.TemporaryFile() as lines:
         lines.write("".join(f"{row}\n" for row in asked).encode())
         lines.seek(0)
-        out = subprocess.run([rows], stdin=lines, stdout=subprocess.PIPE, check=True).stdout.decode()
+        out = subprocess.run([rows, "input_rows"], stdin=lines, stdout=subprocess.PIPE, check=True).stdout.decode()
     answers = out.splitlines()
     assert len(answers) == len(asked)
     return answers

@@ -1,9 +1,9 @@
 """Compares what thumb_layout lays with three others: rows that were worked by hand, a layout written here from the rules of docs/MACHINE.md alone,
 and the bytes of GNU as, which is given each list with its branches and pools written out.
 
-    layout_peers.py FOLDER PROGRAM..
+    layout_peers.py FOLDER ROWS
 
-writes lists of pieces to FOLDER/lists, runs the program on that file, and compares each line that it writes.
+gives `ROWS thumb_rows` lists of pieces as its rows `lay`, and compares each line that it writes.
 """
 import random
 import subprocess
@@ -297,13 +297,15 @@ def some_list(chance):
 
 
 def main():
-    folder, program = sys.argv[1], sys.argv[2:]
+    folder, program = sys.argv[1:]
     chance = random.Random(20250521)
     hand = list(rows())
     lists = [row for row, _ in hand] + [some_list(chance) for _ in range(10000)]
-    with open(f"{folder}/lists", "w", encoding="ascii") as file:
-        file.write("".join(words(pieces) + "\n" for pieces in lists))
-    ran = subprocess.run([*program, f"{folder}/lists"], capture_output=True, text=True)
+    # (a file, since of a pipe the program reads a byte at a time)
+    with open(f"{folder}/lists", "w+", encoding="ascii") as file:
+        file.write("".join(f"lay {words(pieces)}\n" for pieces in lists))
+        file.seek(0)
+        ran = subprocess.run([program, "thumb_rows"], stdin=file, stdout=subprocess.PIPE, stderr=subprocess.PIPE, text=True, check=False)
     answers = ran.stdout.split("\n")
     wrong = 0
     forms_seen, pools_seen, over_seen, told = [0, 0, 0], 0, 0, 0

@@ -2,7 +2,8 @@
 # Lists of pieces are laid, and the bytes are compared: those that were worked by hand, and 10,000 by chance with a layout that
 # checks/layout_peers.py makes from the rules alone; some of each with the bytes of GNU as for ARM, to which their branches and pools
 # are written out. Without the assembler the whole check is skipped (status 77), before anything is built.
-# usage: checks/layout_peers.sh
+# ROWS is the program rows of tests/, as bin/compile --fast makes it where it is left out: its rows `lay` are these lists.
+# usage: checks/layout_peers.sh [ROWS]
 set -eu
 top=$(cd "$(dirname "$0")/.." && pwd)
 command -v arm-none-eabi-as > /dev/null || {
@@ -11,5 +12,5 @@ command -v arm-none-eabi-as > /dev/null || {
 }
 folder=$(mktemp -d)
 trap 'rm -rf "$folder"' EXIT
-program=$("$top/bench/program.sh" "$folder/program" "$top/bench/layout/lists/main.txt" "sts_base thumb_code thumb_layout anyhow" sts_base thumb_code thumb_layout)
-python3 "$top/checks/layout_peers.py" "$folder" "$program"
+rows=${1:-$("$top/bin/compile" --fast rows)}
+python3 "$top/checks/layout_peers.py" "$folder" "$rows"

@@ -139,7 +139,7 @@ class Classes:
         with tempfile.TemporaryFile() as rows:
             rows.write("".join("class " + "".join(f"%{byte:02X}" for byte in content) + "\n" for content in contents).encode())
             rows.seek(0)
-            said = subprocess.run([ROWS], stdin=rows, stdout=subprocess.PIPE, timeout=300, check=True).stdout.decode().split("\n")[:-1]
+            said = subprocess.run([ROWS, "input_rows"], stdin=rows, stdout=subprocess.PIPE, timeout=300, check=True).stdout.decode().split("\n")[:-1]
         assert len(said) == len(contents)
         yield from (int(it.split()[1]) if it.startswith("refused ") else None for it in said)
 

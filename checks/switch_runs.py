@@ -47,7 +47,7 @@ target: .word   {target}
 
 
 def rows(lines):
-    given = subprocess.run([sys.argv[2]], input="".join(f"switch {it}\n" for it in lines), capture_output=True, text=True)
+    given = subprocess.run([sys.argv[2], "thumb_rows"], input="".join(f"switch {it}\n" for it in lines), capture_output=True, text=True)
     found = given.stdout.split("\n")[:-1]
     assert len(found) == len(lines), given.stderr[-500:]
     return found

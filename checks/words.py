@@ -1,6 +1,6 @@
 """Random lists of words, read by a program and by these rules.
 
-    words.py PROGRAM SEED
+    words.py ROWS SEED
 
 A list is taken where its first word is a command and behind it stand, in any order, the command's names in their order and its options, each at most
 once: `--budget M` as two words or `--budget=M` as one, `--stats`, and `--image`, which stands only where `--stats` stands too. A name isn't empty and
@@ -92,7 +92,7 @@ def main():
     with tempfile.TemporaryFile() as rows:
         rows.write("".join(f"words{line_of(it)}\n" for it in lists).encode("utf-8"))
         rows.seek(0)
-        ran = subprocess.run([sys.argv[1]], stdin=rows, stdout=subprocess.PIPE, timeout=SECONDS, check=True)
+        ran = subprocess.run([sys.argv[1], "input_rows"], stdin=rows, stdout=subprocess.PIPE, timeout=SECONDS, check=True)
     lines = ran.stdout.decode("utf-8").split("\n")[:-1]
     dues = [due(it) for it in lists]
     wrong = [(words, line, right) for words, line, right in zip(lists, lines, dues) if line != right]
