@@ -1,6 +1,7 @@
 """The definitions of crates/*/specs/, by the names that files give them: what each of them cites, and what code cites."""
-import glob
 import re
+
+from repository import TOP, below_top
 
 USE = re.compile(r"^\s*(?:ghost )?(?:pub )?use Rattle\.(\w+)\.specs\.([\w.]+?)(?:\.\{(.*)\}| as (\w+))?;?$")
 HEAD = re.compile(r"^\s*(?:abbrev|unfoldable|pub)\b(?: (?:abbrev|unfoldable|pub|record|data))* ([^\s:({]+)|^\s*(?:record|data) ([^\s:({]+) .*: Type")
@@ -8,7 +9,7 @@ WORD = re.compile(r"[^\s(){}\[\],;:.⟦⟧]+(?:\.[^\s(){}\[\],;:.⟦⟧]+)*")
 
 
 def lines_of(path):
-    with open(path, encoding="utf-8") as text:
+    with open(f"{TOP}/{path}", encoding="utf-8") as text:
         return text.read().split("\n")
 
 
@@ -37,10 +38,10 @@ class Definitions:
     """Each definition is known as (crate, module, name); a module of specs/inner/ is `inner.NAME`."""
 
     def __init__(self):
-        # of each definition: its lines, with the comment before it, and the number of the first of them
-        self.blocks, self.starts = {}, {}
+        # of each definition: its lines, with the comment before it, and the number of the first of them; those that are public
+        self.blocks, self.starts, self.public = {}, {}, []
         self.imports, self.cases = {}, {}
-        for path in sorted(glob.glob("crates/*/specs/**/*.antt", recursive=True)):
+        for path in below_top("crates/*/specs/**/*.antt"):
             _, crate, _, *rest = path.split("/")
             at, lines = (crate, ".".join(rest)[: -len(".antt")]), lines_of(path)
             self.imports[at] = named(lines)
@@ -72,6 +73,8 @@ class Definitions:
             end = begins[order + 1][0] if order + 1 < len(begins) else len(lines)
             kept = [it for it in lines[first:end] if it.strip() and not it.lstrip().startswith("module _")]
             self.blocks[*at, name], self.starts[*at, name] = kept, first
+            if re.search(r"\bpub\b", lines[number].partition(name)[0]):
+                self.public.append((*at, name))
             if re.match(r"^\s*(pub )?data ", lines[number]):
                 for line in lines[number + 1 : end]:
                     if found := re.match(r"^\s+([^\s:-]\S*)\s+:", line):

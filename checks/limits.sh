@@ -8,4 +8,4 @@ program=${1:-$("$top/bin/program")}
 folder=$(mktemp -d)
 trap 'rm -rf "$folder"' EXIT
 cp "$program" "$folder/sts"
-exec python3 "$top/checks/limits.py" "$folder"
+python3 "$top/checks/limits.py" "$folder"

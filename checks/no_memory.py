@@ -13,9 +13,10 @@ It is a search for words in code as rt fmt lays it out, and no proof. A place th
 
 No arm has a guard, no condition has more than that, and the call takes no `MAX` and no number of 2^20 and more. A call is known by its name alone.
 """
-import glob
 import re
 import sys
+
+from repository import code, read
 
 # Types whose only value is want of memory, and words that name it.
 ALONE = {"NoMemory", "AllocError", "TryReserveError", "NotMounted"}
@@ -387,8 +388,7 @@ def wrong_in(files, errors):
 
 def forms_of(path):
     """Gives the forms of the check's own test: a name, whether it is right, and its text."""
-    with open(path, encoding="utf-8") as file:
-        return [(name, kind == "right", text) for kind, name, text in re.findall(r"(?m)^-- (right|wrong): (.*)\n((?:(?!-- ).*\n)*)", file.read())]
+    return [(name, kind == "right", text) for kind, name, text in re.findall(r"(?m)^-- (right|wrong): (.*)\n((?:(?!-- ).*\n)*)", read(path))]
 
 
 def tests(errors):
@@ -402,11 +402,7 @@ def tests(errors):
 
 
 def main(words):
-    files = {}
-    for path in sorted(glob.glob("crates/*/src/**/*.rt", recursive=True)):
-        if "_rows/" not in path:
-            with open(path, encoding="utf-8") as file:
-                files[path] = file.read()
+    files = code()
     errors = errors_of(files)
     is_right = tests(errors)
     if words == ["--tests"]:

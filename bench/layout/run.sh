@@ -4,7 +4,6 @@
 # usage: bench/layout/run.sh [RUNS]
 set -eu
 here=$(cd "$(dirname "$0")" && pwd)
-top=$(cd "$here/../.." && pwd)
 runs=${1:-9}
 folder=$(mktemp -d)
 trap 'rm -rf "$folder"' EXIT

@@ -63,7 +63,7 @@ def faults(program, seed, folder, seen):
     found = []
     status, out = call("run", "p.ts", "s.json", "--stats")
     seen[status] += 1
-    lines, stats = out[: out.rfind(b"stats ")], out[out.rfind(b"stats ") :]
+    lines = out[: out.rfind(b"stats ")]
     if status not in NAMED or not re.search(NAMED[status] + rb"\Z", lines):
         found.append(f"run: {status}, {out[-60:]!r}")
     wanted = read(text, script) if status != 4 else None

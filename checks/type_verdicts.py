@@ -1,7 +1,7 @@
 #!/usr/bin/env python3
 """Gives the programs of checks/types.txt to the built program's `check` and to TypeScript's checker.
 
-usage: checks/types.py PROGRAM FOLDER [NODE]
+usage: checks/type_verdicts.py PROGRAM FOLDER [NODE]
 
 `check` must say of each what its verdict says. TypeScript's checker, where node with it is given, must take exactly the accepted programs, but for those that
 say why not.
@@ -59,4 +59,4 @@ for number, (verdict, why, lines) in enumerate(cases):
     if peer[number] is not None and (not peer[number]) != ((verdict == "accepted") != bool(why)):
         tell(number, f"{wanted}{', other than by TypeScript: ' + why if why else ''}, and TypeScript says {peer[number][:2]}")
 print(f"types: {len(cases)} programs ({', '.join(f'{n} {it}' for it, n in sorted(codes.items()))}), {wrong} wrong{'' if node else '; TypeScript was not asked'}")
-sys.exit(1 if wrong else 0)
+sys.exit(1 if wrong or len(cases) < 100 or len(codes) < 9 else 0)
