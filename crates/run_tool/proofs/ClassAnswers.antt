@@ -15,8 +15,8 @@ use Rattle.class_file.specs.declared.class.ClassCode.{ClassCode}
 use Rattle.class_file.specs.declared.class.ClassCode.TheVariants.{NotJson, NotClass, BadCount, EndDiffers}
 use Rattle.class_file.specs.declared.class.ClassRefused.{ClassRefused}
 use Rattle.class_file.specs.declared.class.ClassRefused.TheVariants.{Class as OfClass}
-use Rattle.sts_whole.specs.Accepting.{Accepts}
-use Rattle.sts_whole.specs.Built.{Builds}
+use Rattle.typed_program.specs.Accepting.{Accepts}
+use Rattle.run_tool.specs.Built.{Builds}
 use Rattle.run_tool.specs.declared.fetched.Fetched.TheVariants.{Text}
 use Rattle.run_tool.specs.Files.{ToldFiles, AnswersFile, code_line}
 use Rattle.run_tool.specs.Answers.{Answer}

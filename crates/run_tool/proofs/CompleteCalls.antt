@@ -3,7 +3,7 @@ use Rattle.std.proofs.Common.{◌≡◌, ◌⊎◌, ℕ, false, List, inl, inr, 
 use Rattle.std.specs.Prelude.{Option, Some, None}
 use Rattle.hex_image.specs.Spells.{Spells}
 use Rattle.hex_image.proofs.Laws.{one_reading-of}
-use Rattle.sts_whole.specs.Laws.{OneAnswer}
+use Rattle.typed_program.specs.Laws.{OneAnswer}
 use Rattle.sts_words.specs.Orders.{Asked, check_program, build_program, run_program, run_image, run_at, run_class, run_big}
 use Rattle.run_tool.specs.Files.{Telling, ToldFiles, unfailing}
 use Rattle.run_tool.specs.Answers.{Answer, OfSink, status_of, status_number}

@@ -32,7 +32,7 @@ use Rattle.run_tool.specs.declared.ending.Status.TheVariants.{Refused}
 use Rattle.run_tool.specs.Programs.{AnswersRefusal, refused_line, OverProgram}
 use Rattle.board_world.specs.Observations.{ByteList}
 use Rattle.sts_syntax.specs.TypedTrees.{TypedProgram}
-use Rattle.sts_whole.specs.Built.{Builds}
+use Rattle.run_tool.specs.Built.{Builds}
 use Rattle.sts_words.specs.Orders.{Asked}
 use Rattle.run_tool.specs.Orders.{MayAnswer, lead_of}
 use Rattle.run_tool.specs.Scripts.{AnswersScript, OverScript, RefusesScript}

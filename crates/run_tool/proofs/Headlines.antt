@@ -30,8 +30,8 @@ use Rattle.event_script.specs.Json.{IsTree}
 use Rattle.event_script.specs.Form.{script_of}
 use Rattle.event_script.specs.World.{world_entries}
 use Rattle.event_script.specs.Verdict.{Tells, judged_form}
-use Rattle.sts_whole.specs.Accepting.{Accepts}
-use Rattle.sts_whole.specs.Laws.{OneAnswer}
+use Rattle.typed_program.specs.Accepting.{Accepts}
+use Rattle.typed_program.specs.Laws.{OneAnswer}
 use Rattle.sts_words.specs.Orders.{Asked, run_program, run_big}
 use Rattle.run_tool.specs.declared.ending.Status.{Status}
 use Rattle.run_tool.specs.declared.ending.Ending.{Ending}

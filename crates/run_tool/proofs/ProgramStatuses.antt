@@ -8,8 +8,8 @@ use Rattle.board_world.specs.Board.{Board}
 use Rattle.board_world.specs.Implements.{EndsByNoFault}
 use Rattle.sts_syntax.specs.TypedTrees.{TypedProgram}
 use Rattle.event_script.specs.declared.script.Script.{Script}
-use Rattle.sts_whole.specs.Accepting.{Accepts, IsRefusedFor}
-use Rattle.sts_whole.specs.Laws.{OneAnswer}
+use Rattle.typed_program.specs.Accepting.{Accepts, IsRefusedFor}
+use Rattle.typed_program.specs.Laws.{OneAnswer}
 use Rattle.sts_whole.proofs.Laws.{faultless}
 use Rattle.run_tool.specs.Files.{Telling, unfailing}
 use Rattle.run_tool.specs.Answers.{Answer, status_of, status_number}

@@ -21,7 +21,7 @@ use Rattle.arrival_file.specs.declared.arrival.ArrivalCode.TheVariants as arriva
 use Rattle.event_script.specs.World.{world_entries}
 use Rattle.irq_arrival.specs.Along.{world_with}
 use Rattle.irq_arrival.specs.SourceRuns.{source_at}
-use Rattle.sts_whole.specs.Laws.{OneAnswer}
+use Rattle.typed_program.specs.Laws.{OneAnswer}
 use Rattle.sts_words.specs.Orders.{Asked, run_at}
 use Rattle.run_tool.specs.declared.ending.Ending.{Ending}
 use Rattle.run_tool.specs.declared.ending.Ending.TheVariants.{Gave, Cut, NoMemory}

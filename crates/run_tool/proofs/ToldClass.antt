@@ -15,7 +15,7 @@ use Rattle.class_file.specs.declared.class.Names.{Names}
 use Rattle.class_file.specs.declared.class.ClassFile.{ClassFile}
 use Rattle.class_file.specs.declared.class.ClassCode.{ClassCode}
 use Rattle.class_file.specs.declared.class.ClassCode.TheVariants as class_code
-use Rattle.sts_whole.specs.Laws.{OneAnswer}
+use Rattle.typed_program.specs.Laws.{OneAnswer}
 use Rattle.sts_words.specs.Orders.{Asked, run_class}
 use Rattle.run_tool.specs.declared.ending.Ending.{Ending}
 use Rattle.run_tool.specs.declared.ending.Ending.TheVariants.{Gave, Cut, NoMemory}

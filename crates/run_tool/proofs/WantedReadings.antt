@@ -17,7 +17,7 @@ use Rattle.event_script.specs.declared.script.ScriptCode.{ScriptCode}
 use Rattle.class_file.specs.declared.class.Names.{Names}
 use Rattle.class_file.specs.declared.class.ClassFile.{ClassFile}
 use Rattle.class_file.specs.declared.class.ClassCode.{ClassCode}
-use Rattle.sts_whole.specs.Built.{Builds}
+use Rattle.run_tool.specs.Built.{Builds}
 use Rattle.run_tool.specs.declared.fetched.Fetched.TheVariants.{Text}
 use Rattle.run_tool.specs.declared.ending.Ending.{Ending}
 use Rattle.run_tool.specs.declared.ending.Ending.TheVariants.{NoMemory}

@@ -12,7 +12,7 @@ use Rattle.hex_image.specs.Laws.{IsImage}
 use Rattle.event_script.specs.declared.script.Script.{Script}
 use Rattle.sts_whole.specs.Compiled.{IsBuiltFor}
 use Rattle.board_run.specs.Ran.{world_after, IsExecuted}
-use Rattle.sts_whole.specs.Accepting.{Accepts}
+use Rattle.typed_program.specs.Accepting.{Accepts}
 use Rattle.sts_whole.specs.Programs.{source_after}
 use Rattle.sts_words.specs.Orders.{Asked, run_program, run_big}
 use Rattle.run_tool.specs.Answers.{OfSink, OfDevices, WroteNothing, status_number}

@@ -5,7 +5,7 @@ use Rattle.sts_base.specs.declared.tables.Tables.{Tables}
 use Rattle.board_world.specs.Observations.{ByteList}
 use Rattle.sts_syntax.specs.TypedTrees.{TypedProgram}
 use Rattle.sts_whole.specs.Compiled.{IsBuiltFor}
-use Rattle.sts_whole.specs.Accepting.{Accepts, IsRefusedFor}
+use Rattle.typed_program.specs.Accepting.{Accepts, IsRefusedFor}
 use Rattle.hex_image.specs.declared.refused.HexCode.{HexCode}
 use Rattle.hex_image.specs.Spells.{Spells, Breaks}
 use Rattle.run_tool.specs.Answers.{Answer, output_of, OfSink}

@@ -1,3 +1,4 @@
+pub mod Built
 pub mod Big
 pub mod Answers
 pub mod Files

@@ -9,7 +9,7 @@ use Rattle.board_world.specs.Transcript.{count_text}
 use Rattle.sts_syntax.specs.TypedTrees.{TypedProgram}
 use Rattle.hex_image.specs.Laws.{IsImage}
 use Rattle.hex_image.specs.Writing.{hextext}
-use Rattle.sts_whole.specs.Accepting.{Accepts, IsRefusedFor}
+use Rattle.typed_program.specs.Accepting.{Accepts, IsRefusedFor}
 use Rattle.sts_whole.specs.Compiled.{IsBuiltFor}
 use Rattle.run_tool.specs.declared.ending.Status.TheVariants.{Done, Refused}
 use Rattle.run_tool.specs.Answers.{Answer, says}

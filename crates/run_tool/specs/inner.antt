@@ -19,8 +19,8 @@ use Rattle.board_run.specs.Ran.{end_told}
 use Rattle.class_radio.specs.declared.run.ClassEnd.{ClassEnd}
 use Rattle.class_radio.specs.declared.run.ClassEnd.TheVariants as class
 use Rattle.class_radio.specs.Outcome.{setups_of}
-use Rattle.sts_whole.specs.Accepting.{Accepts}
-use Rattle.sts_whole.specs.Built.{Builds}
+use Rattle.typed_program.specs.Accepting.{Accepts}
+use Rattle.run_tool.specs.Built.{Builds}
 use Rattle.run_tool.specs.declared.ending.Status.{Status}
 use Rattle.run_tool.specs.declared.ending.Status.TheVariants as status
 use Rattle.run_tool.specs.declared.ending.Ending.{Ending}

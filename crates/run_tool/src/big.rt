@@ -4,7 +4,7 @@ ghost use Rattle.board_world.specs.Observations.{ByteList};
 ghost use Rattle.thumb_code.specs.Map.{flash_end};
 ghost use Rattle.tool_io.specs.Putting.{PutsTo};
 ghost use Rattle.sts_syntax.specs.TypedTrees.{TypedProgram};
-ghost use Rattle.sts_whole.specs.Accepting as accepting;
+ghost use Rattle.typed_program.specs.Accepting as accepting;
 ghost use Rattle.sts_whole.specs.Compiled.{IsBuiltFor};
 ghost use Rattle.sts_words.specs.Orders.{IsBudget};
 ghost use Rattle.run_tool.specs.Answers.{Concludes, Led, of_devices, of_sink};
@@ -15,6 +15,7 @@ ghost use Rattle.run_tool.specs.Run.{RunsProgram};
 ghost use Rattle.run_tool.specs.Scripts.{default_script};
 
 use crate::ending::{Ending, Status};
+use crate::images::build;
 use crate::run::{AskedBehind, RunOptions, run_program};
 use crate::said::then_put_refused;
 use crate::script::default_script;
@@ -22,8 +23,8 @@ use board_ports::Device;
 use itoa::Buffer;
 use std::alloc::{AllocError, Global};
 use sts_base::{Code, NoMemory, Refused, place};
-use sts_whole::{build, refusals_stand_in_their_texts};
 use tool_io::{PutFailed, Sink, then_put, then_put_decimal};
+use typed_program::refusals_stand_in_their_texts;
 
 /// Adds a number in decimal.
 fn put_number(out: &mut Vec<u8>, number: u32) -> Result<(), AllocError>

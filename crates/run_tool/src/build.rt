@@ -4,7 +4,7 @@ ghost use Rattle.thumb_code.specs.Map.{flash_end};
 ghost use Rattle.board_world.specs.Observations.{ByteList};
 ghost use Rattle.sts_syntax.specs.TypedTrees.{TypedProgram};
 ghost use Rattle.sts_whole.specs.Compiled.{IsBuiltFor};
-ghost use Rattle.sts_whole.specs.Built.{Builds};
+ghost use Rattle.run_tool.specs.Built.{Builds};
 ghost use Rattle.sts_base.specs.Faults.{Rose};
 ghost use Rattle.run_tool.specs.Answers.{IsFailureTold};
 ghost use Rattle.run_tool.specs.inner.{GivesOneOf, none_to_read, FoundNoMemory};
@@ -29,7 +29,7 @@ pub fn image_of<K: Sink>(alloc: Global, text: &[u8], out: &mut K) -> Result<Vec<
         (OverProgram (λ P. none_to_read) text.now)) }
     ensures later { K.faults out.old ≤ K.faults out.new }
 {
-    match sts_whole::build(alloc, text) {
+    match crate::images::build(alloc, text) {
         Ok(image) => Ok(image),
         Err(why) => Err(say_refusal(out, text, why)),
     }

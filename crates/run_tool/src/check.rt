@@ -11,9 +11,9 @@ use crate::ending::{Ending, Status};
 use crate::fetched::text_of;
 use crate::said::{say, say_refusal};
 use std::alloc::Global;
-use sts_whole::accept;
 use tool_folder::Folder;
 use tool_io::Sink;
+use typed_program::accept;
 
 /// Says whether a text is accepted.
 fn check_text<K: Sink>(alloc: Global, text: &[u8], out: &mut K) -> Ending

@@ -2,8 +2,8 @@
 ghost use Rattle.std.specs.Prelude.{◌≡◌, ◌≢◌, ◌≤◌, ◌<◌, ◌++◌, ◌∷◌, [], ℕ, List, Some, Ok, IfOk, IfErr, OnOk, All, length, codes};
 ghost use Rattle.std.specs.Str.{IsUtf8};
 ghost use Rattle.sts_base.specs.Faults.{Rose};
-ghost use Rattle.sts_whole.specs.Accepting as accepting;
-ghost use Rattle.sts_whole.specs.Built.{Builds};
+ghost use Rattle.typed_program.specs.Accepting as accepting;
+ghost use Rattle.run_tool.specs.Built.{Builds};
 ghost use Rattle.tool_io.specs.Putting.{PutsTo};
 ghost use Rattle.event_script.specs.Codes.{number_of};
 ghost use Rattle.event_script.specs.Sound.{IsSound};
@@ -22,14 +22,15 @@ ghost use Rattle.run_tool.specs.Wanted.{HasAsked, WantsBoards, Onwards, WantsFil
 use crate::classes::say_class_refused;
 use crate::ending::{Ending, Status};
 use crate::fetched::text_of;
+use crate::images::build;
 use crate::said::then_put_refused;
 use class_file::{ClassCode, Names};
 use event_script::{Script, ScriptCode, ScriptRefused, read_script};
 use std::alloc::Global;
 use sts_base::{Code, Refused, place};
-use sts_whole::{build, refusals_stand_in_their_texts};
 use tool_folder::Folder;
 use tool_io::{PutFailed, Sink, then_put, then_put_decimal};
+use typed_program::refusals_stand_in_their_texts;
 
 /// Boards that are made ready: their images, and their scripts.
 #[derive(Drop)]

@@ -28,10 +28,10 @@ use board_ports::Device;
 use command_line::read_command_line;
 use std::alloc::Global;
 use sts_base::NoMemory;
-use sts_whole::one_answer;
 use sts_words::Order;
 use tool_folder::Folder;
 use tool_io::Sink;
+use typed_program::one_answer;
 
 /// Does what an order asks for.
 fn perform_order<F: Folder, K: Sink, D: Device>(

@@ -10,7 +10,8 @@ ghost use Rattle.run_tool.specs.Files.{Telling};
 ghost use Rattle.run_tool.specs.Laws.{HexStatuses, ProgramStatuses, WritesReadable, EndsWithBuilt};
 
 use hex_image::round_trip;
-use sts_whole::{images_are_one, one_answer};
+use sts_whole::images_are_one;
+use typed_program::one_answer;
 
 /// The status of an answer of `run-hex` where nothing fails is 0, 3, 4 or 13 where the text spells an image and no script is named, and 12
 /// where it spells none.

@@ -11,6 +11,7 @@ mod classes;
 mod commands;
 mod ending;
 mod fetched;
+mod images;
 mod laws;
 mod run;
 mod run_at;
@@ -21,6 +22,7 @@ mod script;
 pub use big::big_text;
 pub use commands::sts_main;
 pub use ending::{Ending, Status};
+pub use images::texts_have_one_image;
 pub use laws::{
     built_texts_are_read_back, runs_end_with_what_is_built, statuses_of_programs,
     statuses_of_run_hex,

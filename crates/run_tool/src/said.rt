@@ -2,7 +2,7 @@
 ghost use Rattle.std.specs.Prelude.{◌≡◌, ◌⊎◌, ◌≤◌, ◌<◌, ◌++◌, List, ℕ, length};
 ghost use Rattle.std.specs.declared.option.Option.{Option};
 ghost use Rattle.sts_base.specs.Numbers.{number_of};
-ghost use Rattle.sts_whole.specs.Accepting as accepting;
+ghost use Rattle.typed_program.specs.Accepting as accepting;
 ghost use Rattle.tool_io.specs.Putting.{Puts};
 ghost use Rattle.run_tool.specs.Answers.{says};
 ghost use Rattle.run_tool.specs.inner.{GivesOneOf, none_to_read};
@@ -10,8 +10,8 @@ ghost use Rattle.run_tool.specs.Programs.{AnswersRefusal, refused_line, OverProg
 
 use crate::ending::{Ending, Status};
 use sts_base::{Code, Refused, number, place};
-use sts_whole::refusals_stand_in_their_texts;
 use tool_io::{PutFailed, Sink, then_put, then_put_decimal};
+use typed_program::refusals_stand_in_their_texts;
 
 /// Gives an answer of one line.
 pub fn say<K: Sink>(out: &mut K, status: Status, line: &[u8]) -> Ending

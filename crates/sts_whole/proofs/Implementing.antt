@@ -54,7 +54,7 @@ use Rattle.thumb_emit.specs.InFlash.{IsNamed, Addresses, InFlash}
 use Rattle.thumb_emit.proofs.Laws.{function_named, function_sound}
 use Rattle.emit_simulation.specs.Ties.{IsImage, IsText, IsCode, ties}
 use Rattle.image_link.specs.Linkable.{IsImaged}
-use Rattle.sts_whole.specs.Buildable.{IsBuildable}
+use Rattle.typed_laws.specs.Buildable.{IsBuildable}
 use Rattle.sts_whole.specs.Compiled.{functions_of, bodies_of, IsCompiled}
 
 -- of lists

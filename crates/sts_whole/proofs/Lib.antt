@@ -4,34 +4,5 @@ mod Implementing
 mod Room
 mod Layable
 mod Imaged
-mod Accepted
 mod Reached
-mod Ends
 pub mod Laws
-mod TextBytes
-mod LibraryBehind
-mod AcceptedPrograms
-mod OneAnswers
-mod SomeAnswers
-mod FilledTexts
-mod NodePlaces
-mod SpelledPlaces
-mod FailurePlaces
-mod PassPlaces
-mod TextPlaces
-pub mod PlaceLaws
-mod AtMost
-mod Takes
-pub mod Checked
-pub mod ClassParts
-pub mod Classes
-pub mod Before
-pub mod Constructors
-pub mod Counted
-pub mod Globally
-pub mod Initials
-pub mod Items
-pub mod Numbered
-pub mod Few
-pub mod Mains
-pub mod Makers

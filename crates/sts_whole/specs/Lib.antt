@@ -1,12 +1,5 @@
 pub mod Compiled
 pub mod Building
 pub mod Runs
-pub mod Built
 pub mod Programs
-pub mod Accepting
-pub mod Buildable
 pub mod Laws
-pub mod Checking
-pub mod Wholes
-pub mod Few
-pub mod Numbered

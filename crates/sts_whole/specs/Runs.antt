@@ -9,7 +9,7 @@ use Rattle.board_outside.specs.Moves.{Move, HasMet}
 use Rattle.board_outside.specs.Ports.{DevicesAfter}
 use Rattle.board_run.specs.declared.board.Stats.{Stats}
 use Rattle.board_run.specs.declared.end.End.{End}
-use Rattle.board_run.specs.declared.end.End.TheVariants.{Fault, SinkFault}
+use Rattle.board_run.specs.declared.end.End.TheVariants.{SinkFault}
 use Rattle.board_run.specs.Outside.{Outside}
 use Rattle.board_run.specs.Ran.{world_after, IsExecuted, IsCut, end_told}
 use Rattle.board_ports.specs.Account.{Account}
@@ -40,8 +40,3 @@ RunsImage account image script budget old new SinkFault stats =
     IsCut account (world_after image script) budget old new × Rose old.faults new.faults
 RunsImage account image script budget old new answer stats =
     RunsTo account image script budget old new (end_told answer) stats
-
--- No run of a built image ends by a fault.
-abbrev pub IsFaultless : End → Type 0
-IsFaultless (Fault fault address) = ⊥
-IsFaultless end = Unit {0}

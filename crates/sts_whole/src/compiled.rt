@@ -3,11 +3,10 @@ ghost use Rattle.std.specs.Prelude.{ℕ, List};
 ghost use Rattle.board_world.specs.Observations.{ByteList};
 ghost use Rattle.sts_syntax.specs.TypedTrees.{TypedProgram};
 ghost use Rattle.sts_implements.specs.Images.{ImageImplements};
-ghost use Rattle.sts_whole.specs.Buildable.{IsBuildable};
+ghost use Rattle.typed_laws.specs.Buildable.{IsBuildable};
 ghost use Rattle.sts_whole.specs.Compiled.{IsCompiled};
-ghost use Rattle.sts_whole.specs.Laws.{OneImage, TextHasOneImage};
+ghost use Rattle.sts_whole.specs.Laws.{OneImage};
 
-use crate::accepted_programs::{accepted_programs_are_buildable, one_answer};
 use emit_simulation::images_do_what_flat_code_does;
 use image_link::{
     emitted_code_can_be_linked, images_are_alike, linkable_code_has_an_image,
@@ -37,13 +36,4 @@ pub fn images_are_one()
     emitted_code_can_be_linked();
     linkable_code_has_an_image();
     images_are_alike();
-}
-
-/// A text that is accepted has one image: there is that of its program, and what is built of it twice is the same.
-pub fn texts_have_one_image()
-    ensures { TextHasOneImage }
-{
-    one_answer();
-    accepted_programs_are_buildable();
-    images_are_one();
 }

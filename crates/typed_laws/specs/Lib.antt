@@ -1,5 +1,6 @@
 pub mod Programs
 pub mod Accepted
+pub mod Buildable
 pub mod Formed
 pub mod Libraries
 pub mod BuiltTexts

@@ -4,7 +4,7 @@ use flat_ir::{FlatClass, FlatCode, Function, Op};
 use std::alloc::{AllocError, Global};
 use std::io::{self, Write};
 use sts_lower::lower;
-use sts_whole::{accept, accepted_programs_are_buildable};
+use typed_program::{accept, accepted_programs_are_buildable};
 
 /// How many functions the library has, which stand before a program's own.
 const LIBRARY_SIZE: usize = 7;

@@ -1,5 +1,5 @@
 use Rattle.std.proofs.Common.{subst, inr}
-use Rattle.sts_whole.specs.Accepting as accepting
+use Rattle.typed_program.specs.Accepting as accepting
 use Rattle.run_tool.specs.Answers.{Led}
 use Rattle.run_tool.specs.Big.{big_line}
 use Rattle.run_tool.specs.Programs.{AnswersRefusal, OverProgram}

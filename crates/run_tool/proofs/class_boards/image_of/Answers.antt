@@ -1,5 +1,5 @@
 use Rattle.std.proofs.Common.{subst, ◌≡◌, ◌∷◌, []}
-use Rattle.sts_whole.specs.Built.{Builds}
+use Rattle.run_tool.specs.Built.{Builds}
 use Rattle.run_tool.specs.ClassBoards.{OverBoardProgram}
 use Rattle.run_tool.specs.inner.{none_to_read, wants_never}
 use Rattle.run_tool.proofs.Endings.{if-ok, if-err, text-gives, no-text-gives}

@@ -1,5 +1,5 @@
 use Rattle.std.proofs.Common.{subst, inr}
-use Rattle.sts_whole.specs.Accepting as accepting
+use Rattle.typed_program.specs.Accepting as accepting
 use Rattle.run_tool.specs.Programs.{AnswersRefusal, OverProgram}
 use Rattle.run_tool.specs.inner.{none_to_read}
 use Rattle.run_tool.proofs.Endings.{gives-more}

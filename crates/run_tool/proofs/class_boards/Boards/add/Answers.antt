@@ -1,7 +1,7 @@
 use Rattle.std.proofs.Common.{◌≡◌, ◌≤◌, ◌∙◌, refl, sym, subst, rules, arith, [], ◌++◌, ◌∷◌, List, ℕ, inr, inl}
 use Rattle.std.specs.Prelude.{Some, Ok}
 use Rattle.event_script.specs.Verdict.{Tells}
-use Rattle.sts_whole.specs.Built.{Builds}
+use Rattle.run_tool.specs.Built.{Builds}
 use Rattle.tool_io.specs.Putting.{Took}
 use Rattle.tool_io.proofs.Laws.{took-nothing}
 use Rattle.run_tool.specs.Files.{AnswersFile, told_by}

@@ -1,6 +1,0 @@
-use Rattle.std.proofs.Common.{◌≡◌, ◌++◌, drop, map}
-use Rattle.sts_whole.specs.Wholes as w
-use Rattle.sts_whole.proofs.build_classes.member_functions.Given as goal
-
-abbrev pub invariant-loop-name : goal.invariant-loop-name
-invariant-loop-name l = l.all ++ map (w.member_routine l.plan l.class) (drop l.name-index l.names) ≡ map (w.member_routine l.plan l.class) l.names

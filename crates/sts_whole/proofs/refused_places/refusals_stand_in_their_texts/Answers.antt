@@ -1,5 +1,0 @@
-use Rattle.sts_whole.proofs.TextPlaces.{refusal_within}
-use Rattle.sts_whole.proofs.refused_places.refusals_stand_in_their_texts.Goals as goal
-
-pub returns : goal.returns
-returns c = λ text code at r. refusal_within text code at r
