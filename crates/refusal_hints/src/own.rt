@@ -26,7 +26,7 @@ static LOW: [Explanation; 8] = [
         opened: None,
     },
     Explanation {
-        sentence: "A digit stands there, and no number: write a whole number without 0 before it: count in tenths.",
+        sentence: "A digit is there, and no number: write a whole number without 0 before it: count in tenths.",
         example: "let n = 15",
         opened: None,
     },
@@ -36,7 +36,7 @@ static LOW: [Explanation; 8] = [
         opened: None,
     },
     Explanation {
-        sentence: "The text spells no program of such a nesting: see that token and the one before it: a `;`, an operator or a bracket is missing or too many, or it is a form that isn't here, as `switch`.",
+        sentence: "The text is no program from this word on: see this word and the one before it: a `;`, an operator or a bracket is missing or too many, or it is a form that isn't here, as `switch`.",
         example: "let a = 1; let b = 2",
         opened: None,
     },
@@ -50,12 +50,12 @@ static LOW: [Explanation; 8] = [
 /// Those of the codes 8 to 15.
 static HIGH: [Explanation; 8] = [
     Explanation {
-        sentence: "A name or member isn't known, or a class is used as a value, `this` stands outside a class, or a name begins with `$`: see how the name is written, upper and lower case; declare it before it is used, in this block or outside.",
+        sentence: "A name or member isn't known, or a class is used as a value, `this` is outside a class, or a name begins with `$`: see how the name is written, upper and lower case; declare it before it is used, in this block or outside.",
         example: "let x = 1; serial.writeNumber(x)",
         opened: None,
     },
     Explanation {
-        sentence: "A name stands twice: two globals, functions or classes; two parameters; two members or constructors; two locals of a block; a field of the name of a base's member, a method of the name of a base's field: give one of them another name.",
+        sentence: "A name is there twice: two globals, functions or classes; two parameters; two members or constructors; two locals of a block; a field of the name of a base's member, a method of the name of a base's field: give one of them another name.",
         example: "let a = 1; let b = 2",
         opened: None,
     },
@@ -65,12 +65,12 @@ static HIGH: [Explanation; 8] = [
         opened: None,
     },
     Explanation {
-        sentence: "A type doesn't fit, `[]` stands where no type is given, the number of arguments is another, a `const` is set, `super(..)` is missing or stands elsewhere: see what type the place takes: for a test write a comparison.",
+        sentence: "A type doesn't fit, `[]` is where no type is given, the number of arguments is another, a `const` is set, `super(..)` is missing or elsewhere: see what type the place takes: for a test write a comparison.",
         example: "let a = 1 + 1",
         opened: None,
     },
     Explanation {
-        sentence: "A type can't be told: write the type: `let v: string = null`.",
+        sentence: "A type isn't known: write the type: `let v: string = null`.",
         example: "let v: string = null",
         opened: None,
     },
@@ -85,7 +85,7 @@ static HIGH: [Explanation; 8] = [
         opened: None,
     },
     Explanation {
-        sentence: "A limit is passed (the place doesn't tell where): a function is too long (divide it in two), or the whole text (write a drawing as data), or there are more than 8 parameters with `this`, 64 locals, 256 globals, 64 classes, or 30 fields or 30 methods of a class, or too much text in quotes: see \"Limits\" in docs/LANGUAGE.md.",
+        sentence: "A limit is passed (the place doesn't say where): a function is too long (divide it in two), or the whole text (write a drawing as data), or there are more than 8 parameters with `this`, 64 locals, 256 globals, 64 classes, or 30 fields or 30 methods of a class, or too much text in quotes: see \"Limits\" in docs/LANGUAGE.md.",
         example: "",
         opened: None,
     },

@@ -102,7 +102,7 @@ pub const NOTES: [Note; 54] = [
     Note {
         begins: "refused 4 ",
         ends: "",
-        says: "a digit stands there, and no number: write a whole number without 0 before it: count in tenths",
+        says: "a digit is there, and no number: write a whole number without 0 before it: count in tenths",
     },
     Note {
         begins: "refused 3 ",
@@ -117,17 +117,17 @@ pub const NOTES: [Note; 54] = [
     Note {
         begins: "refused 6 ",
         ends: "",
-        says: "the text spells no program of such a nesting: see that token and the one before it: a `;`, an operator or a bracket is missing or too many, or it is a form that isn't here, as `switch`",
+        says: "the text is no program from this word on: see this word and the one before it: a `;`, an operator or a bracket is missing or too many, or it is a form that isn't here, as `switch`",
     },
     Note {
         begins: "refused 8 ",
         ends: "",
-        says: "a name or member isn't known, or a class is used as a value, `this` stands outside a class, or a name begins with `$`: see how the name is written, upper and lower case; declare it before it is used, in this block or outside",
+        says: "a name or member isn't known, or a class is used as a value, `this` is outside a class, or a name begins with `$`: see how the name is written, upper and lower case; declare it before it is used, in this block or outside",
     },
     Note {
         begins: "refused 9 ",
         ends: "",
-        says: "a name stands twice: two globals, functions or classes; two parameters; two members or constructors; two locals of a block; a field of the name of a base's member, a method of the name of a base's field: give one of them another name",
+        says: "a name is there twice: two globals, functions or classes; two parameters; two members or constructors; two locals of a block; a field of the name of a base's member, a method of the name of a base's field: give one of them another name",
     },
     Note {
         begins: "refused 10 ",
@@ -137,12 +137,12 @@ pub const NOTES: [Note; 54] = [
     Note {
         begins: "refused 11 ",
         ends: "",
-        says: "a type doesn't fit, `[]` stands where no type is given, the number of arguments is another, a `const` is set, `super(..)` is missing or stands elsewhere: see what type the place takes: for a test write a comparison",
+        says: "a type doesn't fit, `[]` is where no type is given, the number of arguments is another, a `const` is set, `super(..)` is missing or elsewhere: see what type the place takes: for a test write a comparison",
     },
     Note {
         begins: "refused 12 ",
         ends: "",
-        says: "a type can't be told: write the type: `let v: string = null`",
+        says: "a type isn't known: write the type: `let v: string = null`",
     },
     Note {
         begins: "refused 13 ",
@@ -157,7 +157,7 @@ pub const NOTES: [Note; 54] = [
     Note {
         begins: "refused 15 ",
         ends: "",
-        says: "a limit is passed (the place doesn't tell where): a function is too long (divide it in two), or the whole text (write a drawing as data), or there are more than 8 parameters with `this`, 64 locals, 256 globals, 64 classes, or 30 fields or 30 methods of a class, or too much text in quotes: see \"Limits\" in docs/LANGUAGE.md",
+        says: "a limit is passed (the place doesn't say where): a function is too long (divide it in two), or the whole text (write a drawing as data), or there are more than 8 parameters with `this`, 64 locals, 256 globals, 64 classes, or 30 fields or 30 methods of a class, or too much text in quotes: see \"Limits\" in docs/LANGUAGE.md",
     },
     Note {
         begins: "script refused 1",
