@@ -188,4 +188,5 @@ def main():
     sys.exit(1 if rows.wrong or not rows.rows else 0)
 
 
-main()
+if __name__ == "__main__":
+    main()
