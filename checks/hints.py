@@ -1,4 +1,5 @@
 # Does what checks/hints.sh says.
+import glob
 import re
 import subprocess
 import sys
@@ -133,7 +134,7 @@ if len(calls) < 28 or len(members) < 10:
 
 # Each example of the tables is a text that isn't refused by the codes 1 to 7, and each sentence stands on one line, ends with a full stop and is of plain ASCII.
 sources = [f"{top}/crates/refusal_hints/src/own.rt"]
-sources += [f"{top}/crates/refusal_hints/src/tables/{name}.rt" for name in ["calls", "control", "forms", "marks", "names", "rest", "takes", "tokens", "types", "drawers", "given", "members", "modern"]]
+sources += sorted(glob.glob(f"{top}/crates/refusal_hints/src/tables/*.rt"))
 said = {"sentence": set(), "example": set()}
 for source in sources:
     with open(source, encoding="utf-8") as file:
@@ -146,6 +147,8 @@ examples = sorted(said["example"] - {""})
 for example, told in zip(examples, refusals([f"{example}\n".encode() for example in examples])):
     if re.match(r"[1-7] ", told):
         wrong.append(f"the example {example!r} is refused {told}")
+if len(examples) < 200 or len(said["sentence"]) < 300:
+    wrong.append(f"{len(examples)} examples, {len(said['sentence'])} sentences")
 
 # Any bytes, any place and any code are answered.
 asked = [(f"{code} {line} {column}", text) for code in [0, 3, 6, 8, 11, 15, 99] for line, column in [(0, 0), (1, 0), (0, 1), (2, 1), (1, 99), (4294967295, 4294967295)]
