@@ -1,6 +1,7 @@
 mod Digits
 mod Lacking
 mod Unshown
+mod Seen
 mod Parts
 mod Pictures
 mod Rows

@@ -7,7 +7,7 @@ use Rattle.std.proofs.lemmas.Bool.{and_parts, and_from, cases_Bool, cases_eq, ne
 use Rattle.std.proofs.lemmas.Bool.Decides.{nat_tests}
 use Rattle.std.proofs.lemmas.List.{append_assoc, append-nil}
 use Rattle.view_forms.specs.declared.notes.Note.{Note}
-use Rattle.view_forms.specs.Shown.{is_shown_plain, shown_byte, shown_bytes, hex_pair}
+use Rattle.view_forms.specs.Shown.{is_shown_plain, shown_byte, shown_bytes, shown_text, hex_pair}
 use Rattle.view_forms.specs.Parts.{lines_in, lead_size, line_lead, told_of, begins_by, ends_by}
 use Rattle.view_forms.specs.Notes.{is_sentence, fits_note, note_said, is_number_sign}
 use Rattle.view_forms.specs.Pictures.{shows_picture, shows_text, text_row, text_of_serial, is_hex_text, picture_rows, squares, squares_row, squares_cell, at_right, picture_row, picture_of}
@@ -18,6 +18,7 @@ use Rattle.view_forms.specs.Reading.{is_byte, unshown, before_byte, behind_byte,
 use Rattle.view_forms.proofs.Digits.{hex-back, hex-bytes}
 use Rattle.view_forms.proofs.Lacking.{lacks, all-append, all-flat_map, all-take, all-replicate, before-none, before-at, behind-at, has-none, has-at, rows-come_back, lines-lack, lines-all}
 use Rattle.view_forms.proofs.Unshown.{shown-back, shown-lacks}
+use Rattle.view_forms.proofs.Seen.{text_shown-back, text_shown-lacks}
 use Rattle.view_forms.proofs.Parts.{lead-told, lead-digit, lead-signs, is_lead_sign, digit-no_space, begins-is}
 use Rattle.view_forms.proofs.Pictures.{pictures-read_back}
 
@@ -122,13 +123,13 @@ text-back : (line : List ℕ) (rows : List (List ℕ)) → shows_text line ≡ t
 text-back line rows h =
     let a = and_parts (nat_lt 0 (lead_size line)) (begins_by (codes "serial ") (told_of line) && is_hex_text (drop 7 (told_of line))) h in
     let b = and_parts (begins_by (codes "serial ") (told_of line)) (is_hex_text (drop 7 (told_of line))) a.1 in
-    let inside = shown_bytes (text_of_serial line) in
+    let inside = shown_text (text_of_serial line) in
     let front = line_lead line ++ codes " serial " in
     let shape : text_row line ≡ front ++ 34 ∷ (inside ++ 34 ∷ []) = text-shape (line_lead line) (codes " serial ") inside in
     let lacks34 : lacks 34 front ≡ true = all-append (λ b. not (b == 34)) (line_lead line) (codes " serial ") (signs-lack 34 (line_lead line) refl (lead-signs line a.0)) refl in
     let lacks9 : lacks 9 front ≡ true = all-append (λ b. not (b == 9)) (line_lead line) (codes " serial ") (signs-lack 9 (line_lead line) refl (lead-signs line a.0)) refl in
-    let inside34 : lacks 34 inside ≡ true = shown-lacks 34 (text_of_serial line) refl (omega arith) in
-    let inside9 : lacks 9 inside ≡ true = shown-lacks 9 (text_of_serial line) refl (omega arith) in
+    let inside34 : lacks 34 inside ≡ true = text_shown-lacks 34 (text_of_serial line) refl (omega arith) in
+    let inside9 : lacks 9 inside ≡ true = text_shown-lacks 9 (text_of_serial line) refl (omega arith) in
     let all9 : lacks 9 (front ++ 34 ∷ (inside ++ 34 ∷ [])) ≡ true =
     all-append (λ b. not (b == 9)) front (34 ∷ (inside ++ 34 ∷ [])) lacks9 (all-append (λ b. not (b == 9)) inside (34 ∷ []) inside9 refl) in
     let P : List ℕ → Type 0 = λ row. lines_of_row row rows ≡ line ∷ [] in
@@ -139,7 +140,7 @@ text-back line rows h =
     (has-at 34 front (inside ++ 34 ∷ []) refl lacks34)
     (before-at 34 front (inside ++ 34 ∷ []) refl lacks34)
     (ap (before_byte 34) (behind-at 34 front (inside ++ 34 ∷ []) refl lacks34) ∙ before-at 34 inside [] refl inside34)
-    (ap (flat_map hex_pair) (shown-back (text_of_serial line) (hex-bytes (drop 7 (told_of line)) b.1)) ∙ hex-back (drop 7 (told_of line)) b.1)
+    (ap (flat_map hex_pair) (text_shown-back (text_of_serial line) (hex-bytes (drop 7 (told_of line)) b.1)) ∙ hex-back (drop 7 (told_of line)) b.1)
     (append_assoc (line_lead line) (codes " serial ") (drop 7 (told_of line))
     ∙ sym (lead-told line a.0 ∙ ap (λ t. line_lead line ++ 32 ∷ t) (begins-is (codes "serial ") (told_of line) b.0))))
 
@@ -229,9 +230,9 @@ line_rows-lack notes below line h =
       | inl e ↦
           subst P (sym (cond-true (shows_text line) (text_row line ∷ []) (told_rows notes line (explanation_of below line)) e))
           (and_from (lacks 10 (text_row line)) true
-          (all-append (λ b. not (b == 10)) (line_lead line) (codes " serial \"" ++ (shown_bytes (text_of_serial line) ++ codes "\"")) (all-take (λ b. not (b == 10)) (lead_size line) line h)
-          (all-append (λ b. not (b == 10)) (codes " serial \"") (shown_bytes (text_of_serial line) ++ codes "\"") refl
-          (all-append (λ b. not (b == 10)) (shown_bytes (text_of_serial line)) (codes "\"") (shown-lacks 10 (text_of_serial line) refl (omega arith)) refl))) refl)
+          (all-append (λ b. not (b == 10)) (line_lead line) (codes " serial \"" ++ (shown_text (text_of_serial line) ++ codes "\"")) (all-take (λ b. not (b == 10)) (lead_size line) line h)
+          (all-append (λ b. not (b == 10)) (codes " serial \"") (shown_text (text_of_serial line) ++ codes "\"") refl
+          (all-append (λ b. not (b == 10)) (shown_text (text_of_serial line)) (codes "\"") (text_shown-lacks 10 (text_of_serial line) refl (omega arith)) refl))) refl)
       | inr e ↦
           subst P (sym (cond-false (shows_text line) (text_row line ∷ []) (told_rows notes line (explanation_of below line)) e)) (told-lack notes line (explanation_of below line) h)
     ]

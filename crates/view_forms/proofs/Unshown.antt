@@ -15,7 +15,7 @@ unshown-other b (x ∷ []) e = refl
 unshown-other b (x ∷ (h ∷ [])) e = refl
 unshown-other b (x ∷ (h ∷ (l ∷ rest))) e = rw e refl
 
-plain-other : (b : ℕ) → is_shown_plain b ≡ true → (b == 92) ≡ false
+pub plain-other : (b : ℕ) → is_shown_plain b ≡ true → (b == 92) ≡ false
 plain-other b h = grind (arith, nat_tests)
 
 pub byte-below : (b : ℕ) → is_byte b ≡ true → b < 256

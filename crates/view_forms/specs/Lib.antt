@@ -3,6 +3,7 @@ pub mod Parts
 pub mod Pictures
 pub mod Notes
 pub mod Below
+pub mod Short
 pub mod Rows
 pub mod Reading
 pub mod Page

@@ -1,7 +1,7 @@
 -- Lines that show a picture or a text, and how they stand in a view.
 use Rattle.std.specs.Prelude.{ℕ, ◌-◌, ◌*◌, ◌==◌, nat_lt, nat_le, Bool, true, false, ◌&&◌, ◌||◌, if◌then◌else◌, List, [], ◌∷◌, ◌++◌, length, get_or, take, drop, replicate, flat_map, codes}
 use Rattle.std.specs.List.{list_all}
-use Rattle.view_forms.specs.Shown.{shown_bytes, bytes_of_hex}
+use Rattle.view_forms.specs.Shown.{shown_text, bytes_of_hex}
 use Rattle.view_forms.specs.Parts.{lead_size, line_lead, told_of, begins_by}
 
 -- a light of a picture: # is lit and . is dark
@@ -49,7 +49,7 @@ text_of_serial line = bytes_of_hex (drop 7 (told_of line))
 
 -- such a line with its bytes as people see them, between quotation marks
 abbrev pub text_row : List ℕ → List ℕ
-text_row line = line_lead line ++ (codes " serial \"" ++ (shown_bytes (text_of_serial line) ++ codes "\""))
+text_row line = line_lead line ++ (codes " serial \"" ++ (shown_text (text_of_serial line) ++ codes "\""))
 
 -- two squares for a light: full ones where it is lit, else two dots
 abbrev pub squares : ℕ → List ℕ

@@ -8,7 +8,7 @@ pub struct Note {
 }
 
 /// What is said of lines: of several rows that fit, the first holds. The sentences are those of docs/TEACHERS.md, docs/LANGUAGE.md and docs/FORMATS.md.
-pub const NOTES: [Note; 54] = [
+pub const NOTES: [Note; 56] = [
     Note {
         begins: "end ",
         ends: " quiet",
@@ -68,6 +68,16 @@ pub const NOTES: [Note; 54] = [
         begins: "fault ",
         ends: "",
         says: "the image did what no program of this language does: the HEX file is from elsewhere",
+    },
+    Note {
+        begins: "left out ",
+        ends: "",
+        says: "lines of this moment are left out: `bin/view --all` shows them. A loop that never waits writes so many: put a `basic.pause` into it",
+    },
+    Note {
+        begins: "the rest is left out",
+        ends: "",
+        says: "there are more than 64 MB: a loop that writes doesn't end, or writes long texts",
     },
     Note {
         begins: "pin ",
