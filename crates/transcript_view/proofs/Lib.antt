@@ -1,3 +1,5 @@
 mod Pieces
 mod Lines
 mod Cuts
+mod Fewer
+mod Seen

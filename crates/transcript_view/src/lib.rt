@@ -6,8 +6,10 @@ mod notes;
 mod page;
 mod parts;
 mod pictures;
+mod short;
 mod shown;
 mod text;
 
-pub use page::view_page;
-pub use text::{ViewFault, view_text};
+pub use page::{page_text, view_page};
+pub use short::{joined, shortened};
+pub use text::{ViewFault, view_text, viewed};

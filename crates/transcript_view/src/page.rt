@@ -42,12 +42,21 @@ fn push_page_text(out: &mut Vec<u8>, input: &[u8]) -> Result<(), AllocError>
     Ok(())
 }
 
+/// A text as it stands in a page, where none of it is markup.
+pub fn page_text(alloc: Global, input: &[u8]) -> Result<Vec<u8>, AllocError>
+    ensures { IfOk result (λ text. text.items ≡ spec.page_text input.now) }
+{
+    let mut out = Vec::new(alloc);
+    push_page_text(&mut out, input)?;
+    Ok(out)
+}
+
 /// The whole page.
-fn page(alloc: Global, head: &str, tail: &str, input: &[u8]) -> Result<Vec<u8>, AllocError>
+fn page(alloc: Global, head: &[u8], tail: &str, input: &[u8]) -> Result<Vec<u8>, AllocError>
     ensures { IfOk result (λ text. text.items ≡ spec.page_view head.now tail.now input.now) }
 {
     let mut out = Vec::new(alloc);
-    out.extend_from_slice(head.as_bytes())?;
+    out.extend_from_slice(head)?;
     push_page_text(&mut out, input)?;
     out.extend_from_slice(tail.as_bytes())?;
     Ok(out)
@@ -57,7 +66,7 @@ fn page(alloc: Global, head: &str, tail: &str, input: &[u8]) -> Result<Vec<u8>, 
 /// markup, and every other byte by its digits. After a fault a part of it was taken, and `Sink` comes only where the sink's count of faults rose.
 pub fn view_page<K: Sink>(
     alloc: Global,
-    head: &str,
+    head: &[u8],
     tail: &str,
     input: &[u8],
     out: &mut K,

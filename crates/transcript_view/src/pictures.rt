@@ -2,7 +2,6 @@
 ghost use Rattle.std.specs.Prelude.{◌≡◌, ◌≤◌, ◌<◌, ◌-◌, ◌*◌, ◌+◌, ◌++◌, ◌∷◌, [], OnOk, length, map, replicate, flat_map, true};
 ghost use Rattle.std.specs.List.{list_all};
 ghost use Rattle.view_forms.specs.Parts.{line_lead};
-ghost use Rattle.view_forms.specs.Shown.{shown_bytes};
 ghost use Rattle.view_forms.specs.Rows.{text_of_rows};
 ghost use Rattle.view_forms.specs.Pictures as spec;
 

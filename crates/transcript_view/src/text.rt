@@ -104,8 +104,8 @@ fn push_line<'a>(
     push_rows(out, notes, below, line)
 }
 
-/// The whole view.
-fn viewed(
+/// The whole view of a transcript as a text of that many columns, as bytes.
+pub fn viewed(
     alloc: Global,
     notes: &[Note],
     below: &[Below<'_>],
