@@ -4,4 +4,5 @@
 mod refusal;
 mod text;
 
-pub use text::{view_explained, view_plain};
+pub use refusal::{Refusal, first_refusal};
+pub use text::{view_below, view_explained, view_plain};

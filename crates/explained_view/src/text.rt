@@ -33,7 +33,7 @@ fn view_by<K: Sink>(
 
 /// Writes the view with these texts below lines. The sentences of lines are named here alone: the proof of a function that names a long table takes a
 /// minute.
-fn view_below<K: Sink>(
+pub fn view_below<K: Sink>(
     alloc: Global,
     below: &[Below<'_>],
     input: &[u8],
