@@ -1,4 +1,4 @@
-"""The rows, pages and sentences of checks/view.sh."""
+"""The rows, long transcripts, pages and sentences of checks/view.sh."""
 import html
 import os
 import random
@@ -35,10 +35,11 @@ def rows():
         text = "".join(line for line in file if not line.startswith("#"))
     for row in text.strip("\n").split("\n\n"):
         part = dict(re.match(r"(\w+): ?(.*)", line, re.S).groups() for line in row.strip("\n").split("\n"))
-        with tempfile.NamedTemporaryFile(suffix=".ts") as refused:
-            refused.write(bytes_of(part.get("program", "")))
+        named = next((it for it in ("program", "input") if it in part), None)
+        with tempfile.NamedTemporaryFile() as refused:
+            refused.write(bytes_of(part.get(named, "")))
             refused.flush()
-            status, wrote = view(part["words"].split() + ["--program", refused.name] * ("program" in part), bytes_of(part["reads"]))
+            status, wrote = view(part["words"].split() + [f"--{named}", refused.name] * bool(named), bytes_of(part["reads"]))
         expect(f"{row}", (int(part.get("status", 0)), bytes_of(part["writes"])), (status, wrote))
         count += 1
     return count
@@ -88,13 +89,53 @@ def closings():
     wanted = {"end 5 quiet": "`end T quiet`", "end 5 script": "`end T script`", "budget 5": "`budget T`", "fault 5 1 0000000c": "`fault T K A`", "panic 5 7": "`panic T another`", "usage": "`usage`"}
     wanted |= {it: f"`{it}`" for it in ("missing", "too long", "folder failed")}
     for line, row in wanted.items():
-        said = view([], f"{line}\n".encode())[1].decode().partition("\t")[2].rstrip("\n")
+        wrote = view([], f"{line}\n".encode())[1].decode().rstrip("\n")
+        said = wrote.partition("\t")[2] or wrote.rpartition("  | ")[2]
         expect(f"what is said of {line}, by its parts", (True, []), (bool(said), [part for part in re.split(": |; ", said) if part.lower() not in rows[row].lower()]))
     return len(wanted)
 
 
-def page_of(folder, name, transcript):
-    status, wrote = view(["--html"], transcript)
+def long_transcripts():
+    """Long moments, whose middle is left out, and transcripts past the limits: what is shown of them, and in how much memory."""
+    count = 0
+    for moment, number in (("7", 40), ("7", 41), ("3 12", 100), ("7", 90_000)):
+        lines = [f"{moment} radio {i}" for i in range(number)]
+        given = "\n".join([*lines, f"{moment.split()[-1]} pin 0 1", "end 9 quiet"] if " " in moment else [*lines, "8 pin 0 1", "end 9 quiet"]).encode()
+        wrote = view([], given)[1].decode().split("\n")
+        left = [*lines[:10], *lines[-10:]]
+        shown = [it for it in wrote if " radio " in it]
+        expect(f"{number} lines of {moment}: those that stand", lines if number <= 40 else left, shown)
+        told = [it.split("\t")[0] for it in wrote if " left out " in it.split("\t")[0]]
+        expect(f"{number} lines of {moment}: how many are left out", [] if number <= 40 else [f"{moment} left out {number - 20}"], told)
+        expect(f"{number} lines of {moment}: the last line comes first too", "end 9 quiet" if number > 40 else lines[0], wrote[0].split("\t")[0])
+        expect(f"{number} lines of {moment}: by --all", [*lines, wrote[-3].split("\t")[0], "end 9 quiet"], [it.split("\t")[0] for it in view(["--all"], given)[1].decode().split("\n")[:-1]])
+        count += 4
+    return count + (limits() if not OF_ROWS else 0)
+
+
+def limits():
+    """A transcript of 70 MB, of which 64 MB are read, as a text and as a page, and how much memory that takes."""
+    with tempfile.TemporaryDirectory() as folder:
+        file = f"{folder}/many.txt"
+        with open(file, "w", encoding="ascii") as out:
+            for i in range(1100):
+                out.write(f"{i} serial {'c3bcff41' * 8000}\n")
+        for words, most in ((["--width", "80"], 200_000_000), (["--html"], 5_000_000)):
+            ran = subprocess.run(["/usr/bin/env", "python3", "-c", MEASURED, PROGRAM, *words, file], stdout=subprocess.PIPE, stderr=subprocess.PIPE, timeout=600, check=False)
+            kilobytes, size, last = ran.stdout.decode().split("\n")[:3]
+            expect(f"70 MB, {words}: the memory in MB", True, int(kilobytes) < 300_000)
+            expect(f"70 MB, {words}: the bytes written", True, int(size) <= most)
+            expect(f"70 MB, {words}: that the rest is left out", True, "the rest is left out" in last)
+            print(f"70 MB by {' '.join(words)}: {int(kilobytes) // 1000} MB of memory, {int(size)} bytes written")
+    return 6
+
+
+# Runs a program with words, and writes its memory in KB, how many bytes it wrote, and the last of them.
+MEASURED = "import resource, subprocess, sys; r = subprocess.run(sys.argv[1:], stdout=subprocess.PIPE); t = r.stdout; print(resource.getrusage(resource.RUSAGE_CHILDREN).ru_maxrss); print(len(t)); print(t[-30000:].replace(b'\\n', b' ').decode('utf-8', 'replace'))"
+
+
+def page_of(folder, name, transcript, words=()):
+    status, wrote = view(["--html", *words], transcript)
     expect(f"the page of {name}: status", 0, status)
     file = f"{folder}/{name}.html"
     with open(file, "wb") as out:
@@ -273,12 +314,66 @@ def used():
     return count
 
 
+def told():
+    """What the page says, as the terminal does: the title, presses on buttons and pins that go down, sentences, an explanation; and a moment with many pictures."""
+    pressed = b"100 button A goes down\n180 button A goes up\n180 serial e280aec3bc0a\n200 event 101 1\n300 pin 2 1\n400 button B goes down\n400 event 101 2\npanic 500 105\n"
+    flood = b"".join(b"0 display %s/...../...../...../.....\n" % (b"#....", b".....")[i % 2] for i in range(90_000)) + b"budget 0\n"
+    count = 0
+    with tempfile.TemporaryDirectory() as folder:
+        file = page_of(folder, "pressed", pressed, ["--title", "caf\u00e9 <b>.ts"])
+        with browser.Browser(file, 1000, 700) as it:
+            down = "[...document.querySelectorAll('.down')].map((it) => it.dataset.key).join()"
+            states = [it.value(down)]
+            for _ in range(7):
+                it.key("ArrowRight")
+                states.append(it.value(down))
+            expect("pressed: what is down, line by line", ["", "A", "", "", "P1", "P1", "B,P1", "B"], states)
+            expect("pressed: the pin that is high", "P2", it.value("document.querySelector('.high').dataset.key"))
+            expect("pressed: the title", ["caf\u00e9 <b>.ts"] * 2, [it.value("document.title"), it.value("document.getElementById('name').textContent")])
+            expect("pressed: presses on the time line", "Presses: A from 100 ms, P1 from 200 ms, B from 400 ms", it.value("document.getElementById('presses').getAttribute('aria-label')"))
+            expect("pressed: strokes on the time line", 2, it.value("document.querySelectorAll('#presses path').length"))
+            expect("pressed: the serial text, its mark of direction as a number", "\\u202e\u00fc\n", it.value("document.querySelector('.rest pre').textContent"))
+            it.value("document.getElementById('time').focus()")
+            it.key("End")
+            expect("pressed: how it ended", ["panic 500 105", "something is used that is `null`: make it with `new` before it is used; test `!= null`"], it.value("['closing', 'says'].map((it) => document.querySelector('.' + it).textContent)"))
+            expect("pressed: the speeds", "0.0625", it.value("document.getElementById('speed').options[0].value"))
+            expect("pressed: what went wrong", [], it.told)
+            count += 9
+        with open(f"{folder}/wrong.ts", "w", encoding="utf-8") as out:
+            out.write("led.plot(1 2)\n")
+        file = page_of(folder, "wrong", b"refused 6 1 12\n", ["--title", "wrong.ts", "--program", f"{folder}/wrong.ts"])
+        with browser.Browser(file, 1000, 700) as it:
+            expect("wrong: the explanation", ["refused 6 1 12", "A comma is missing between two arguments.\n    led.plot(1 2)\n               ^\nfor example: led.plot(1, 2)"], it.value("[...document.querySelectorAll('#told *')].map((it) => it.textContent)"))
+            expect("wrong: what went wrong", [], it.told)
+            count += 2
+        for words, most, pictures in (((), 30_000, "Pictures: 90000"), (("--all",), 5_000_000, "Pictures: 90000")):
+            file = page_of(folder, "flood", flood, words)
+            expect(f"flood {words}: the bytes of the page", True, os.path.getsize(file) <= most)
+            seconds = min(opens(file) for _ in range(3))
+            expect(f"flood {words}: it opens within a second", True, seconds <= 1 or bool(words))
+            with browser.Browser(file, 1000, 700) as it:
+                expect(f"flood {words}: one picture stands for all", ["90000 at 0 ms"], it.value("[...document.querySelectorAll('.frame')].map((it) => it.textContent)"))
+                expect(f"flood {words}: how many there are", pictures, it.value("document.querySelector('.rest h2').textContent"))
+                it.value("document.getElementById('time').focus()")
+                it.key("End")
+                expect(f"flood {words}: the sentence", "the program wasn't done", it.value("document.querySelector('.says').textContent").partition(":")[0])
+            print(f"the page of a flood {' '.join(words)}, {os.path.getsize(file)} bytes, was open after {seconds:.2f} s")
+            count += 5
+        many = b"".join(b"%d display %s\n" % (i, (b"#..../...../...../...../.....", b"...../...../...../...../.....")[i % 2]) for i in range(5000)) + b"end 5000 quiet\n"
+        with browser.Browser(page_of(folder, "many", many), 1000, 700) as it:
+            expect("5,000 pictures: how many are drawn", "Pictures: 5000, of which 2000 are drawn", it.value("document.querySelector('.rest h2').textContent"))
+            expect("5,000 pictures: how wide the strip is", 128_000, it.value("document.querySelector('.inner').offsetWidth"))
+            count += 2
+    return count
+
+
 def main():
     count = rows()
     said = sentences()
     if subprocess.run([sys.executable, f"{TOP}/checks/page.py"], check=False).returncode:
         failed.append("the policy of the page")
-    looked = pages() + class_page() + used() if page.chromium() and not OF_ROWS else 0
+    count += long_transcripts()
+    looked = pages() + class_page() + used() + told() if page.chromium() and not OF_ROWS else 0
     for it in failed:
         print(it)
     if failed:

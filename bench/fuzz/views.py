@@ -1,6 +1,7 @@
 #!/usr/bin/env python3
-"""Gives a built view random and mutated transcripts, and reads the lines back from what it writes, as a text and as a page, by a reading of its own after docs/FORMATS.md ("Views"). What isn't
-read back, or ends by another status than 0, is a surprise: it is printed, and its file is kept. Half of the texts are asked for with a program, of random bytes too, whose refusal is explained.
+"""Gives a built view random and mutated transcripts, and reads the lines back from what it writes, as a text and as a page, by a reading of its own after docs/FORMATS.md ("Views"): all lines
+by --all, and without it those of a transcript that was made shorter, by a program of its own too. What isn't read back, or ends by another status than 0, is a surprise: it is printed, and its
+file is kept. Half of the texts are asked for with a program, of random bytes too, whose refusal is explained.
 
 usage: views.py VIEW SEED COUNT        COUNT inputs of some lines each; a thousand are given to the program at once, one behind the other
 """
@@ -24,6 +25,8 @@ PAGE = re.compile(rb'<pre id="transcript"[^>]*>\n([^<]*)</pre>')
 
 def mutated(chance):
     lines = [chance.choice(SEEDS) for _ in range(chance.randrange(1, 8))]
+    if chance.random() < 0.02:
+        lines += [chance.choice((b"7 radio 1", b"7 serial 61", b"7 serial 0a", b"7 pin 0 1"))] * chance.randrange(30, 60)
     text = b"\n".join(lines) + (b"\n" if chance.random() < 0.8 else b"")
     for _ in range(chance.choice((0, 0, 1, 1, 2, 5))):
         at = chance.randrange(len(text) + 1)
@@ -71,6 +74,38 @@ def lines_of(view):
         at += 1
 
 
+def lead_of(line):
+    """The moment of a line, of a class's line with the board's number."""
+    found = re.match(rb"([0-9] )?[0-9]{1,10}(?= )", line)
+    return found[0] if found else re.match(rb"(?:[0-9]{1,10}(?= ))?", line)[0]
+
+
+def serial_of(line):
+    lead = lead_of(line)
+    found = re.fullmatch(rb" serial ((?:[0-9a-f]{2})*)", line[len(lead):]) if lead else None
+    return found[1] if found else None
+
+
+def shorter(lines):
+    """The lines of a short view: texts joined, the middle of long moments left out, and then the last line first."""
+    joined = []
+    for line in lines:
+        last = joined[-1] if joined else b""
+        if len(last) < 500 and joined and lead_of(last) and lead_of(last) == lead_of(line) and not last.endswith(b"0a") and serial_of(last) is not None and serial_of(line) is not None:
+            joined[-1] += serial_of(line)
+        else:
+            joined.append(line)
+    short, at = [], 0
+    while at < len(joined):
+        upto = at + 1
+        while upto < len(joined) and lead_of(joined[at]) and lead_of(joined[upto]) == lead_of(joined[at]):
+            upto += 1
+        moment = joined[at:upto]
+        short += moment if len(moment) <= 40 else [*moment[:10], b"%s left out %d" % (lead_of(moment[0]), len(moment) - 20), *moment[-10:]]
+        at = upto
+    return short if len(short) == len(joined) else [short[-1], *short]
+
+
 def main():
     program, seed, count = sys.argv[1], int(sys.argv[2]), int(sys.argv[3])
     begun, surprises, read = time.time(), 0, 0
@@ -81,10 +116,12 @@ def main():
         with tempfile.NamedTemporaryFile(suffix=".ts") as refused:
             refused.write(made(chance))
             refused.flush()
-            orders = (["--width", str(width), *chance.choice(([], ["--program", refused.name]))], ["--html"])
-            shown, page = (subprocess.run([program, *words], input=text, stdout=subprocess.PIPE, timeout=60, check=False) for words in orders)
+            explained = chance.choice(([], ["--program", refused.name]))
+            orders = (["--all", "--width", str(width), *explained], ["--html", "--all", *explained], ["--width", str(width), *explained])
+            shown, page, short = (subprocess.run([program, *words], input=text, stdout=subprocess.PIPE, timeout=60, check=False) for words in orders)
         found = PAGE.search(page.stdout)
-        if (shown.returncode, page.returncode) != (0, 0) or list(lines_of(shown.stdout)) != lines_in(text) or not found or unshown(found[1]) != text:
+        is_short = short.returncode == 0 and list(lines_of(short.stdout)) == shorter(lines_in(text))
+        if (shown.returncode, page.returncode) != (0, 0) or list(lines_of(shown.stdout)) != lines_in(text) or not found or unshown(found[1]) != text or not is_short:
             surprises += 1
             os.makedirs(KEPT, exist_ok=True)
             with open(f"{KEPT}/{seed}-{first}", "wb") as file:

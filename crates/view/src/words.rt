@@ -9,14 +9,18 @@ const COLUMNS: usize = 80;
 
 const MOST_COLUMNS: usize = 100_000;
 
-/// What is asked for: the file that is read, if it isn't standard input; the file of the program whose refusal is explained, if one is; how wide the
-/// text is; whether it is a page.
+/// What is asked for: the file that is read, if it isn't standard input; the file of the program whose refusal is explained,
+/// and of the script, class file or arrivals, if one is; a page's title,
+/// if one is given; how wide the text is; whether it is a page; whether it has all lines.
 #[derive(Clone, Copy, Drop)]
 pub struct Asked<'a> {
     pub file: Option<&'a str>,
     pub program: Option<&'a str>,
+    pub input: Option<&'a str>,
+    pub title: Option<&'a str>,
     pub width: usize,
     pub html: bool,
+    pub all: bool,
 }
 
 /// A word that begins with two hyphens.
@@ -31,6 +35,9 @@ fn command<'a>(alloc: Global) -> Result<Command<'a>, AllocError> {
     line.arg(Arg::new(alloc, "file").action(ArgAction::Set))?
         .arg(option(alloc, "width", ArgAction::Set))?
         .arg(option(alloc, "program", ArgAction::Set))?
+        .arg(option(alloc, "input", ArgAction::Set))?
+        .arg(option(alloc, "title", ArgAction::Set))?
+        .arg(option(alloc, "all", ArgAction::SetTrue))?
         .arg(option(alloc, "html", ArgAction::SetTrue))
 }
 
@@ -45,18 +52,17 @@ fn columns_of(word: Option<&str>) -> Option<usize> {
     }
 }
 
-/// What is asked for. A page explains nothing, so it goes with no program.
+/// What is asked for, where the number of columns is one.
 fn asked_by<'a>(matches: &ArgMatches<'a>) -> Option<Asked<'a>> {
-    let asked = Asked {
+    Some(Asked {
         file: matches.get_str("file"),
         program: matches.get_str("program"),
+        input: matches.get_str("input"),
+        title: matches.get_str("title"),
         width: columns_of(matches.get_str("width"))?,
         html: matches.get_flag("html"),
-    };
-    if asked.html && asked.program.is_some() {
-        return None;
-    }
-    Some(asked)
+        all: matches.get_flag("all"),
+    })
 }
 
 fn matches_of<'a>(alloc: Global, words: &'a [String]) -> Result<ArgMatches<'a>, Error> {
