@@ -1,5 +1,5 @@
 #!/bin/sh
-# Runs per second of bin/judge on 1, 2 and 4 processors, by GNU parallel where that is installed, and of a plain shell loop, over PROGRAMS programs (1000 if not given) with 10 scripts each: copies of the examples that have a
+# Runs per second of bin/judge on 1, 2 and 4 processors, and of a plain shell loop, over PROGRAMS programs (1000 if not given) with 10 scripts each: copies of the examples that have a
 # script, whose end is 0 to 9 ms later. What is wanted is what the program writes for one copy of each. Seconds of processors are of all that was started.
 # usage: bench/judge.sh [PROGRAMS [PROGRAM]], where PROGRAM is sts, as bin/program names it where it is left out
 set -eu
@@ -65,7 +65,3 @@ for processors in 1 2 4; do
     [ "$processors" -le "$(nproc)" ] || continue
     measured "bin/judge on $processors" taskset -c "0-$((processors - 1))" "$top/bin/judge" "$folder" --program "$program"
 done
-if parallel --version 2>/dev/null | grep -q '^GNU parallel'; then
-    echo "$(nproc)/:" > "$folder/hosts"
-    measured 'bin/judge by GNU parallel' "$top/bin/judge" "$folder" --program "$program" --hosts "$folder/hosts"
-fi

@@ -5,6 +5,7 @@
 The last line is 'judge: N things looked at, K wrong'.
 """
 import contextlib
+import getpass
 import glob
 import json
 import os
@@ -13,8 +14,10 @@ import re
 import resource
 import shutil
 import signal
+import socket
 import subprocess
 import sys
+import tempfile
 import time
 from xml.etree import ElementTree
 
@@ -123,7 +126,10 @@ def look_at_wrong_copies():
         expect_in(name, f"{wanted[0]:16}wrong/{name}.ts: 0 of 1 runs as wanted\n", said)
     expect_in("frames as pictures", "        wanted        came\n        ····██····    ····██····\n        ··██████··    ··████····\n        ····██····    ····██····\n", said)
     expect_in("serial bytes as text", '        wanted  760 serial 33    "3"\n        came    760 serial 32    "2"\n', said)
-    expect_in("a run without a script", "    no script.txt, without a script: line 1 differs\n", said)
+    expect_in("a run without a script", "    no script.txt, without a script: line 1 differs: 0 of 13 rows are as wanted\n", said)
+    expect_in("how many rows are as wanted", "    frame.json: line 3 differs: 12 of 13 rows are as wanted\n", said)
+    expect_in("a refusal by its text", "    text.json: refused by code 6 at line 3, column 1\n        A value is missing after this sign.\n", said)
+    expect_in("a refused script", "    broken script.json: script refused 1\n        line 1: ", said)
     suites = {it.get("name"): it for it in ElementTree.parse(f"{FOLDER}/out.xml").getroot()}
     for name, (_, wanted) in copies.items():
         tag = "skipped" if wanted[0] == "no wanted file" else "failure"
@@ -288,7 +294,7 @@ def look_at_interrupts():
     child = begin("many", "--jobs", "1")
     child.stdout.readline()
     child.stdout.close()
-    expect("nobody reads", (child.wait(60), child.stderr.read()), (1, b""))
+    expect("nobody reads", (child.wait(60), child.stderr.read()), (22, b"judge: the output couldn't be written: Broken pipe\n"))
 
 
 def look_at_terminal():
@@ -304,13 +310,37 @@ def look_at_terminal():
     expect("how far it is", (child.wait(60), re.search(rb"\d+ of 12 programs, \d+ of 12 runs, 0 not as wanted, about \d+ s left", shown) is not None), (0, True))
 
 
+@contextlib.contextmanager
+def ssh_server():
+    """An ssh server on a free port of this machine, with keys of its own: the words of ssh that reach it. Nothing where there is no such server."""
+    server = shutil.which("sshd") or shutil.which("sshd", path="/usr/sbin")
+    if not (server and shutil.which("ssh") and shutil.which("ssh-keygen")):
+        yield None
+        return
+    home = f"{FOLDER}/ssh"
+    os.makedirs(home, mode=0o700)
+    for name in ("host", "user"):
+        subprocess.run(["ssh-keygen", "-q", "-t", "ed25519", "-N", "", "-f", f"{home}/{name}"], check=True)
+    with socket.socket() as free:
+        free.bind(("127.0.0.1", 0))
+        port = free.getsockname()[1]
+    put("ssh/config", f"Port {port}\nListenAddress 127.0.0.1\nHostKey {home}/host\nAuthorizedKeysFile {home}/user.pub\nPidFile none\nStrictModes no\nUsePAM no\nPasswordAuthentication no\nLogLevel ERROR\n")
+    # (run by root, the server wants this folder)
+    is_made = os.geteuid() == 0 and not os.path.isdir("/run/sshd")
+    if is_made:
+        os.mkdir("/run/sshd", 0o755)
+    child = subprocess.Popen([server, "-D", "-e", "-f", f"{home}/config"], stderr=subprocess.DEVNULL)
+    try:
+        yield f"ssh -p {port} -i {home}/user -o IdentitiesOnly=yes -o UserKnownHostsFile={home}/known -o StrictHostKeyChecking=no -o LogLevel=ERROR {getpass.getuser()}@127.0.0.1"
+    finally:
+        child.terminate()
+        child.wait()
+        if is_made:
+            os.rmdir("/run/sshd")
+
+
 def look_at_hosts():
     put("hosts", ":\n")
-    asked = shutil.which("parallel") and subprocess.run(["parallel", "--version"], stdout=subprocess.PIPE, stderr=subprocess.DEVNULL, check=False).stdout
-    if not (asked and asked.startswith(b"GNU parallel")):
-        expect_in("--hosts without GNU parallel", "Debian's package parallel", judge("stubs", "--hosts", "hosts")[2])
-        print("judge: GNU parallel is missing (package parallel), so that --hosts wasn't tried")
-        return
     status, _, found, programs = judged("wrong", "--hosts", "hosts", "--jobs", "2")
     expect("--hosts", (status, found), (1, counts(failed=11, no_wanted_file=1, refused=3)))
     expect("--hosts, a line", programs["frame.ts"]["runs"][0]["says"], "line 3 differs")
@@ -322,14 +352,134 @@ def look_at_hosts():
     os.environ["PATH"] = path
     expect("a machine that isn't there", (status, said.count("1 of 1 runs as wanted")), (0, 1))
     expect_in("a machine that isn't there", "1 runs came to no end on the other machines, and are done here", error)
+    for text in ("", "-oProxyCommand=x\n", "8/\n"):
+        put("hosts", text)
+        expect(f"hosts {text!r}", judge("stubs", "--hosts", "hosts")[0], 2)
+    with ssh_server() as words:
+        if words is None:
+            print("judge: there is no ssh server (package openssh-server), so that --hosts wasn't tried over one")
+            return
+        look_at_ssh(words)
+
+
+def look_at_ssh(words):
+    """Over an ssh server of this machine: the same outcomes as here, in at most twice the time, also where a machine is gone; nothing stays there."""
+    before = set(os.listdir(tempfile.gettempdir()))
+    put("hosts", f"# two machines, of which one is gone\n2/{words}\nssh -p 1 -i {words.partition(' -i ')[2]}\n")
+    status, said, error = judge("wrong", "--hosts", "hosts", "--json", "out.json")
+    with open(f"{FOLDER}/out.json", encoding="utf-8") as file:
+        found = json.load(file)["programs"]
+    expect("over ssh", (status, found), (1, counts(failed=11, no_wanted_file=1, refused=3)))
+    expect("over ssh, done here", "are done here" in error, False)
+    expect_in("over ssh, frames as pictures", "        wanted        came\n        ····██····    ····██····\n", said)
+    put("hosts", f"{words}\n")
+    seconds = {}
+    for name, more in (("here", ()), ("over ssh", ("--hosts", "hosts"))):
+        begun = time.monotonic()
+        status, said, error = judge("many", *more, seconds=600)
+        seconds[name] = time.monotonic() - begun
+        expect(f"200 programs {name}", (status, said.count("1 of 1 runs as wanted"), error), (0, 200, ""))
+    expect(f"200 programs over ssh within twice the time: {seconds}", seconds["over ssh"] <= 2 * seconds["here"] + 2, True)
+    print(f"judge: 200 programs took {seconds['here']:.1f} s here and {seconds['over ssh']:.1f} s over ssh")
+    put("hosts", f"1/{words}\n")
+    status, said, _ = judge("stubs", "--hosts", "hosts", "--seconds", "1", program=stub("hangs", "exec sleep 100"))
+    expect_in("over ssh, a program that hangs", "one.json: killed after 1 seconds", said)
+    child = begin("many", "--hosts", "hosts", "--jobs", "1")
+    child.stdout.readline()
+    child.send_signal(signal.SIGINT)
+    expect_in("over ssh, interrupted", "interrupted: ", child.communicate(timeout=60)[0].decode())
+    until = time.monotonic() + 20
+    while (left := {it for it in set(os.listdir(tempfile.gettempdir())) - before if it.startswith("judge-")}) and time.monotonic() < until:
+        time.sleep(0.2)
+    expect("over ssh, what stays", left, set())
+
+
+def look_at_meanings():
+    """What is compared by meaning: the text as a whole, the last picture of each moment, times that differ."""
+    wanted = COUNTER["txt"]
+    late = b"".join(re.sub(rb"^(end )?(\d+)", lambda it: (it[1] or b"") + b"%d" % (int(it[2]) + 3), line) for line in wanted.splitlines(keepends=True))
+    other = wanted.replace(b"180 serial 31\n180 serial 0a\n", b"180 serial 310a\n").replace(b"180 display", b"180 display #####/...../...../...../.....\n180 display")
+    closed = wanted.replace(b"end 2500 quiet", b"budget 2500")
+    picture = wanted.replace(b"..#../.##..", b"..#../.###.")
+    text = wanted.replace(b"760 serial 32", b"760 serial 39")
+    for name, given in (("late", late), ("other", other), ("closed", closed), ("picture", picture), ("text", text)):
+        put_counter(f"meant/{name}", txt=given)
+    for words, passed in (((), set()), (("--compare", "text"), {"late", "other", "picture"}), (("--compare", "pictures"), {"other", "text"}), (("--compare", "text,pictures"), {"other"}),
+                          (("--compare", "pictures", "--within", "3"), {"late", "other", "text"}), (("--compare", "pictures", "--within", "2"), {"other", "text"}), (("--within", "3"), {"late"}),
+                          (("--compare", "text", "--compare", "pictures", "--within", "3"), {"late", "other"})):
+        _, said, _, programs = judged("meant", *words)
+        expect(f"meant {words}", {it.removesuffix(".ts") for it, program in programs.items() if program["verdict"] == "passed"}, passed)
+        if words == ("--compare", "text"):
+            expect_in("meant, a text", "    text.json: line of text 2 differs: 4 of 5 rows are as wanted\n        wanted  text 9\n        came    text 2\n", said)
+            expect_in("meant, a closing", "    closed.json: the closing line differs\n        wanted  budget 2500\n        came    end 2500 quiet\n", said)
+        if words == ("--compare", "pictures"):
+            expect_in("meant, pictures", "    picture.json: picture 1 differs: 3 of 4 rows are as wanted\n", said)
+    for words in (("--compare", "words"), ("--within", "x"), ("--within", "-1")):
+        expect(f"meant {words}", judge("meant", *words)[0], 2)
+
+
+def look_at_tasks():
+    """One task for all programs, programs by their names, and files that are no programs."""
+    for name in ("a", "b"):
+        put_counter(f"tasks/{name}", json=None, txt=None)
+    put("tasks/b.ts", "basic.pause(1)\n")
+    put("task.json", COUNTER["json"])
+    put("task.txt", COUNTER["txt"])
+    _, said, found, programs = judged("tasks", "--task", "task.json", "--wanted", "task.txt")
+    expect("a task", (found, programs["a.ts"]["verdict"], programs["b.ts"]["verdict"]), (counts(passed=1, failed=1), "passed", "failed"))
+    expect_in("a task, a run", "    task.json: line 1 differs: 0 of 13 rows are as wanted\n", said)
+    expect("a program by its name", judged("tasks/a.ts", "--task", "task.json", "--wanted", "task.txt")[2], counts(passed=1))
+    put("quiet.txt", "end 1 quiet\n")
+    put("none.json", '{"end": 1000, "events": []}')
+    _, _, found, programs = judged("tasks/a.ts", "tasks/b.ts", "--task", "task.json", "--wanted", "task.txt", "--task", "none.json", "--wanted", "quiet.txt")
+    expect("two tasks", [len(it["runs"]) for it in programs.values()], [2, 2])
+    for words in (("tasks", "--task", "nowhere.json"), ("tasks", "--task", "task.json", "--wanted", "task.txt", "--wanted", "quiet.txt"), ("tasks/a.json",), ("task.json",)):
+        expect(f"tasks {words}", judge(*words)[0], 2)
+    shutil.copytree(f"{TOP}/examples/lesson", f"{FOLDER}/lesson")
+    put("lesson/lamp.arrivals.json", '{"arrivals": []}')
+    put("lesson/lamp.class.txt", "0 end 0 quiet\n")
+    put("lesson/stray.txt", "")
+    put("lesson/notes.md", "")
+    put("lesson/\x1b.odd", "")
+    status, said, error = judge("lesson")
+    for line in ("lesson/lamp.class.json: a class file, which `sts class` runs", "lesson/lamp.arrivals.json: arrivals, which `sts run-at` takes", "lesson/lamp.class.txt: it is wanted of lamp.class.json, which is a class file",
+                 "lesson/stray.txt: no program has the name with which it begins", "lesson/notes.md: no program: its name doesn't end with .ts", "lesson/\\x1b.odd: no program: its name doesn't end with .ts"):
+        expect_in("what is left out", f"left out        {line}\n", said)
+    expect("no class file is a script", re.findall(r"class\.json[:,] .*refused", said), [])
+    expect("a class file as a task", judge("tasks", "--task", "lesson/lamp.class.json")[0], 2)
+
+
+def look_at_files():
+    """Reports: none takes the place of a file that it didn't make, and none is lost where the output can't be written."""
+    put("notes.txt", "kept\n")
+    for option in ("--json", "--junit", "--html"):
+        status, said, error = judge("stubs", option, "notes.txt")
+        expect(f"{option} over another file", (status, said, open(f"{FOLDER}/notes.txt", encoding="utf-8").read()), (2, "", "kept\n"))
+        expect_in(f"{option} over another file", "give another name, or --force", error)
+        for words in ((), ("--force",)):
+            expect(f"{option} over its own file {words}", judge("stubs", option, f"own{option}", *words)[0], 0)
+            expect(f"{option} over its own file {words}, again", judge("stubs", option, f"own{option}")[0], 0)
+        expect(f"{option} by force", judge("stubs", option, "notes.txt", "--force")[0], 0)
+        put("notes.txt", "kept\n")
+    put_counter("names/<b>\x1b\u202e", txt=COUNTER["txt"].replace(b"760 serial 32", b"760 serial 3c623e"))
+    status, said, _ = judge("names", "--html", "names.html")
+    with open(f"{FOLDER}/names.html", encoding="utf-8") as file:
+        page = file.read()
+    expect("names in a page", ("&lt;b&gt;\\x1b\\xe2\\x80\\xae.ts" in page, "<b>" in page, "\x1b" in page + said, "\u202e" in page + said), (True, False, False, False))
+    expect_in("a page", "1 programs: 1 failed", page)
+    with open("/dev/full", "wb") as full:
+        child = begin("stubs", stdout=full)
+        error = child.communicate(timeout=60)[1].decode()
+        expect("a full device", (child.returncode, error), (22, "judge: the output couldn't be written: No space left on device\n"))
 
 
 def look_at_documents():
     """What the documents show behind `$ bin/judge` is what it writes."""
     shutil.copytree(f"{TOP}/examples", f"{FOLDER}/as/examples")
     os.mkdir(f"{FOLDER}/as/bin")
-    shutil.copy(JUDGE, f"{FOLDER}/as/bin/judge")
-    stub("as/bin/program", f"echo '{PROGRAM}'")
+    for it in glob.glob(f"{JUDGE}*"):
+        shutil.copy(it, f"{FOLDER}/as/bin/{os.path.basename(it)}")
+    stub("as/bin/program", f"[ \"${{1:-}}\" = view ] && exec '{TOP}/bin/program' view; echo '{PROGRAM}'")
     shown = 0
     for document in [f"{TOP}/README.md", *sorted(glob.glob(f"{TOP}/docs/*.md"))]:
         with open(document, encoding="utf-8") as file:
@@ -345,8 +495,8 @@ def look_at_documents():
     expect("commands in the documents", shown > 0, True)
 
 
-for look in (look_at_examples, look_at_wrong_copies, look_at_odd_folders, look_at_stubs, look_at_loops, look_at_words, look_at_killed_runs, look_at_interrupts, look_at_terminal, look_at_hosts,
-             look_at_documents):
+for look in (look_at_examples, look_at_wrong_copies, look_at_odd_folders, look_at_stubs, look_at_loops, look_at_words, look_at_meanings, look_at_tasks, look_at_files, look_at_killed_runs,
+             look_at_interrupts, look_at_terminal, look_at_hosts, look_at_documents):
     look()
 print(f"judge: {looked} things looked at, {wrong} wrong")
 sys.exit(1 if wrong else 0)
