@@ -179,9 +179,9 @@ def inputs_of_one(tries):
                     yield from (["check", name], ["build", name])
 
     tries.each("texts", of_texts())
-    tries.each("scripts", (["run", "small.ts", tries.write(f"{n}.json", scripts_of(n * KB))] for n in range(1, 1026, 4)))
+    tries.each("scripts", (["run", "small.ts", tries.write(f"{n}.json", scripts_of(n * KB))] for n in range(1, 1026)))
     tries.each("images", (["run-hex", tries.write(f"{n}.hex", hex_text(bytes.fromhex("803F00200D0000000D00000000DF") + bytes(n * KB - 14)))] for n in range(1, 258)))
-    tries.each("HEX files", (["run-hex", tries.write(f"long{n}.hex", ENDS + ":0000000000\n" * (n * KB // 12) + ":00000001FF\n")] for n in range(1, 1026, 4)))
+    tries.each("HEX files", (["run-hex", tries.write(f"long{n}.hex", ENDS + ":0000000000\n" * (n * KB // 12) + ":00000001FF\n")] for n in range(1, 1026)))
 
     def of_arrivals():
         for n in near_powers(4096):
