@@ -1,4 +1,5 @@
-"""Whether what is kept in files may be taken, and its checksums. Nobody but whoever calls or root may have written it, and no link is followed."""
+"""Whether what is kept in files may be taken, and its checksums. Nobody but whoever calls or root may have written it,
+and no link is followed."""
 import contextlib
 import hashlib
 import os
@@ -26,12 +27,15 @@ def is_safe(folder):
 
 
 def makes_safe(folder):
-    """Makes a folder where there is none, or nothing is in it; gives whether it is safe. One that others could write to, and that isn't empty, stays as it is."""
+    """Makes a folder where there is none, or nothing is in it; gives whether it is safe. One that others could write to,
+    and that isn't empty, stays as it is.
+    """
     with contextlib.suppress(OSError):
         os.makedirs(folder, mode=0o755, exist_ok=True)
     with contextlib.suppress(OSError):
         has = os.lstat(folder)
-        if stat.S_ISDIR(has.st_mode) and has.st_uid == os.getuid() and has.st_mode & BY_OTHERS and not os.listdir(folder):
+        is_folder = stat.S_ISDIR(has.st_mode)
+        if is_folder and has.st_uid == os.getuid() and has.st_mode & BY_OTHERS and not os.listdir(folder):
             os.chmod(folder, 0o755)
             # (from here on nobody else can write to it, but may have before)
             return is_safe(folder) and not os.listdir(folder)
@@ -52,7 +56,7 @@ def checksum(path):
     """Gives the checksum of a file, or of a folder with all that is in it, by names and contents."""
     if not stat.S_ISDIR(os.lstat(path).st_mode):
         with opened(path) as it:
-            return hashlib.file_digest(it, "sha256").hexdigest() if hasattr(hashlib, "file_digest") else hashlib.sha256(it.read()).hexdigest()
+            return hashlib.sha256(it.read()).hexdigest()
     if not is_safe(path):
         raise Unsafe(f"others could write to {path}")
     sum_ = hashlib.sha256()

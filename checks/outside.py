@@ -1,8 +1,11 @@
-"""Whether `bin/test --quick` changes nothing outside its clone. It runs in a clone of the last commit, as an ordinary user; lists of files with their kinds are compared before and after it: of /dev, of
-the temporary folders, and of the user's home. Called by root, it runs as a user whom nobody else is, so that in the temporary folders each file of that user counts, wherever else others write; called by
-an ordinary user, these are folders of its own, and of the others the user's own files count that aren't there for another process.
+"""Whether `bin/test --quick` changes nothing outside its clone. It runs in a clone of the last commit, as an ordinary
+user; lists of files with their kinds are compared before and after it: of /dev, of the temporary folders, and of the
+user's home. Called by root, it runs as a user whom nobody else is, so that in the temporary folders each file of that
+user counts, wherever else others write; called by an ordinary user, these are folders of its own, and of the others the
+user's own files count that aren't there for another process.
 
-Before that it looks whether a compiler, an assembler, a linker or objcopy is given a device as its output: as root they put a file in its place.
+Before that it looks whether a compiler, an assembler, a linker or objcopy is given a device as its output: as root they
+put a file in its place.
 """
 import os
 import pwd

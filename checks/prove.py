@@ -1,8 +1,10 @@
-"""Tries what bin/prove takes for proved: in a tree of a library and a program, with a kit of scripts whose prover refuses a text with the word false, and edits a source at a moment that is given.
+"""Tries what bin/prove takes for proved: in a tree of a library and a program, with a kit of scripts whose prover
+refuses a text with the word false, and edits a source at a moment that is given.
 
-An edit that the prover hasn't read is never held for proved, in each of the three windows: before the prover reads the crate, while it proves, and after it; and so is one that was there while it
-read, and gone when it ended. A killed run leaves no note beside a library that was written in part. A library, a note or a folder that others could have written to isn't taken.
-With the kit's own prover the second window is tried once more, with a contract that is false.
+An edit that the prover hasn't read is never held for proved, in each of the three windows: before the prover reads the
+crate, while it proves, and after it; and so is one that was there while it read, and gone when it ended. A killed run
+leaves no note beside a library that was written in part. A library, a note or a folder that others could have written
+to isn't taken. With the kit's own prover the second window is tried once more, with a contract that is false.
 """
 import contextlib
 import os
