@@ -27,7 +27,7 @@ def is_safe(folder):
 
 
 def makes_safe(folder):
-    """Makes a folder where there is none, or nothing is in it; gives whether it is safe. One that others could write to,
+    """Makes a folder where none is, or nothing is in it; gives whether it is safe. One that others could write to,
     and that isn't empty, stays as it is.
     """
     with contextlib.suppress(OSError):
