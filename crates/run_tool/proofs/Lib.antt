@@ -19,3 +19,4 @@ mod ToldClass
 mod Wanting
 mod WantedReadings
 mod EndsBuilt
+mod PostedRuns

@@ -11,6 +11,7 @@ pub mod ClassBoards
 pub mod Class
 pub mod Orders
 pub mod Headline
+pub mod Posted
 pub mod Wanted
 pub mod Laws
 pub mod inner

@@ -13,6 +13,7 @@ mod ending;
 mod fetched;
 mod images;
 mod laws;
+mod posted;
 mod run;
 mod run_at;
 mod run_hex;
@@ -27,3 +28,4 @@ pub use laws::{
     built_texts_are_read_back, runs_end_with_what_is_built, statuses_of_programs,
     statuses_of_run_hex,
 };
+pub use posted::run_posted;
