@@ -6,7 +6,7 @@ unset CDPATH
 umask 022
 # The programs that stand in bin/ and have a module in made/, each a crate of crates.txt with a main.rt.
 # shellcheck disable=SC2034
-programs='sts view'
+programs='sts view play'
 say() { printf 'sts: %s\n' "$*" >&2; }
 
 self=$(readlink -f -- "$0") && user=$(id -u) && owner=$(stat -c %u -- "$self") || exit 125

@@ -8,11 +8,11 @@ import time
 
 import page
 
-KEYS = {"Tab": 9, "Enter": 13, " ": 32, "End": 35, "Home": 36, "ArrowLeft": 37, "ArrowRight": 39}
+KEYS = {"a": 65, "b": 66, "Tab": 9, "Enter": 13, " ": 32, "End": 35, "Home": 36, "ArrowLeft": 37, "ArrowRight": 39}
 
 
 class Browser:
-    """Chromium with one page, which was open and drawn after so many seconds."""
+    """Chromium with one page, of a file or at an address, which was open and drawn after so many seconds."""
 
     def __init__(self, file, width, height, scheme="light"):
         self.home = tempfile.TemporaryDirectory(ignore_cleanup_errors=True)
@@ -30,8 +30,8 @@ class Browser:
         self.call("Emulation.setDeviceMetricsOverride", width=width, height=height, deviceScaleFactor=1, mobile=False)
         self.call("Emulation.setEmulatedMedia", features=[{"name": "prefers-color-scheme", "value": scheme}])
         begun = time.time()
-        self.call("Page.navigate", url=f"file://{file}")
-        while not self.value("document.readyState == 'complete' && location.protocol == 'file:'"):
+        self.call("Page.navigate", url=file if "://" in file else f"file://{file}")
+        while not self.value("document.readyState == 'complete' && location.protocol != 'about:'"):
             pass
         self.seconds = time.time() - begun
 

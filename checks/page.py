@@ -1,4 +1,4 @@
-"""Compares the sums of the page's policy with its style and its script, or with --mend writes them anew; gives what other checks ask of a page in headless Chromium."""
+"""Compares the sums of the pages' policies with their styles and their scripts, or with --mend writes them anew; gives what other checks ask of a page in headless Chromium."""
 import base64
 import hashlib
 import os
@@ -9,7 +9,7 @@ import sys
 import tempfile
 
 TOP = os.path.dirname(os.path.dirname(os.path.abspath(__file__)))
-SOURCE = f"{TOP}/crates/view/src/page.rt"
+SOURCES = [f"{TOP}/crates/{it}/src/page.rt" for it in ("view", "play")]
 
 
 def sum_of(text):
@@ -44,11 +44,18 @@ def lights(text, board=0):
     return "/".join(signs[i:i + 5] for i in range(0, 25, 5))
 
 
-if __name__ == "__main__":
-    with open(SOURCE, encoding="utf-8") as file:
+def look(path, mend):
+    """Whether a page's source has the sums of its style and its script, or has them now."""
+    with open(path, encoding="utf-8") as file:
         source = file.read()
-    if sys.argv[1:] == ["--mend"]:
-        with open(SOURCE, "w", encoding="utf-8") as file:
+    if mend:
+        with open(path, "w", encoding="utf-8") as file:
             file.write(mended(source))
-    elif mended(source) != source:
-        sys.exit(f"{SOURCE}: the policy has another sum than the style or the script: python3 checks/page.py --mend writes them anew")
+        return True
+    return mended(source) == source
+
+
+if __name__ == "__main__":
+    for name in SOURCES:
+        if not look(name, sys.argv[1:] == ["--mend"]):
+            sys.exit(f"{name}: the policy has another sum than the style or the script: python3 checks/page.py --mend writes them anew")

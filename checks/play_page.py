@@ -1,0 +1,173 @@
+"""The page of bin/play in headless Chromium: see play_page.sh."""
+import json
+import os
+import random
+import re
+import statistics
+import subprocess
+import sys
+import tempfile
+import time
+
+import page
+from browser import Browser
+
+TOP = page.TOP
+COUNTER = open(f"{TOP}/examples/counter.ts", encoding="utf-8").read()
+wrong = 0
+tries = 0
+
+
+def look(holds, what):
+    global wrong, tries
+    tries += 1
+    if not holds:
+        wrong += 1
+        print(what)
+
+
+class Page(Browser):
+    """The page, and what a reader does with it."""
+
+    def wait(self, expression, what, seconds=20):
+        begun = time.time()
+        while not self.value(expression):
+            if time.time() - begun > seconds:
+                look(False, f"waited in vain: {what}")
+                return False
+            time.sleep(0.02)
+        return True
+
+    def text(self, selector):
+        return self.value(f"document.querySelector({json.dumps(selector)}).textContent")
+
+    def put(self, text):
+        """Puts a text in the place of the program's, as typing does."""
+        self.value("document.getElementById('text').focus(), document.getElementById('text').select()")
+        self.call("Input.insertText", text=text)
+
+    def quiet(self):
+        self.wait("!busy && !again", "a run that ends")
+        time.sleep(0.25)
+        self.wait("!busy && !again", "a run that ends")
+
+    def press(self, name, seconds=0.05):
+        words = {"key": name, "code": f"Key{name.upper()}", "windowsVirtualKeyCode": ord(name.upper())}
+        self.call("Input.dispatchKeyEvent", type="rawKeyDown", **words)
+        time.sleep(seconds)
+        self.call("Input.dispatchKeyEvent", type="keyUp", **words)
+
+
+class Served:
+    """bin/play over two files of a folder, which needn't be there."""
+
+    def __init__(self, folder):
+        self.program, self.script = f"{folder}/mine.ts", f"{folder}/mine.json"
+        self.runs = subprocess.Popen([f"{TOP}/bin/play", self.program, self.script, "--no-browser"], stdout=subprocess.PIPE, text=True)
+        self.url = self.runs.stdout.readline().strip()
+
+    def __enter__(self):
+        return self
+
+    def __exit__(self, *_):
+        self.runs.send_signal(2)
+        self.runs.wait(30)
+
+
+def used(served):
+    with Page(served.url, 1280, 900) as it:
+        it.wait("sums.program !== ''", "the files")
+        look(it.value("document.getElementById('text').value") == "", "a program that isn't there has a text")
+        it.put(COUNTER)
+        it.quiet()
+        look(it.value("mark") is None, "the program is refused")
+        it.put(COUNTER.replace("let count = 0", "let count = 0 0"))
+        it.wait("!document.getElementById('refusal').hidden", "a refusal")
+        look("line 2" in it.text("#goto"), f"the place is told as {it.text('#goto')}")
+        look(len(it.text("#sentence")) > 10, "no sentence is told")
+        look(it.value("document.querySelectorAll('#shown .row.bad').length") == 1, "the line isn't marked")
+        it.put(COUNTER)
+        it.wait("document.getElementById('refusal').hidden", "a program that is mended")
+        it.quiet()
+        it.value("document.activeElement.blur()")
+        it.click("#a")
+        it.wait("answer.lines.some((one) => one.kind === 'display')", "a picture after the first press")
+        it.wait("document.querySelectorAll('.light.on').length > 0", "lights after the first press")
+        first = it.lights()
+        it.press("a")
+        it.wait("answer.lines.filter((one) => one.kind === 'serial').length >= 4", "what is written after the second press")
+        time.sleep(0.3)
+        look(it.lights() != first, "the second press changes nothing")
+        look(it.value("broken") == 0, "what was shown has changed")
+        look(it.value("events.length") == 4, f"two presses are {it.value('events.length')} entries")
+        it.click("#play")
+        time.sleep(0.1)
+        it.click("#savescript")
+        it.wait("document.getElementById('state').textContent.startsWith('saved')", "a script that is saved")
+        it.click("#save")
+        it.wait("document.getElementById('state').textContent === 'saved: the program'", "a program that is saved")
+        look(open(served.program, encoding="utf-8").read() == COUNTER, "the program's file is another")
+        ran = subprocess.run([f"{TOP}/bin/sts", "run", served.program, served.script], stdout=subprocess.PIPE, stderr=subprocess.DEVNULL, text=True, check=False)
+        shown = it.text("#transcript").split("\n")
+        lines = [row for row in ran.stdout.split("\n") if row and not row.startswith("end ")]
+        look(ran.returncode == 0 and len(lines) >= 4 and shown[:len(lines)] == lines, f"sts writes {lines}, and the page has shown {shown}")
+        it.click("#rewind")
+        look(it.value("time") == 0 and it.lights() == "/".join(["....."] * 5), "rewound, the lights aren't dark")
+        it.put('serial.writeString("<img src=x onerror=\\"document.title=1\\"></pre><script>document.title=2</script>")\n')
+        it.quiet()
+        it.click("#play")
+        it.wait("document.getElementById('serial').textContent.includes('<img src=x')", "a text from the serial port")
+        look(it.value("document.querySelectorAll('img').length") == 0 and it.value("document.title") == "Play: the board", "a program's text is taken for markup")
+        told = [one for one in it.told if "status of 404" not in one]  # (files that aren't there yet)
+        look(not told, f"the page tells {told}")
+        look(all(one.startswith(served.url.split("#")[0]) for one in it.asked), f"the page asks for {it.asked}")
+
+
+def pressed(served):
+    """What was shown stays as it was, whatever is pressed; and how long a click takes."""
+    chance = random.Random(72)
+    with Page(served.url, 1280, 900) as it:
+        it.wait("sums.program !== ''", "the files")
+        it.put(open(f"{TOP}/examples/game.ts", encoding="utf-8").read())
+        it.quiet()
+        it.value("document.activeElement.blur()")
+        it.click("#anew")
+        it.quiet()
+        for _ in range(200):
+            chance.choice([lambda: it.press("a", 0), lambda: it.press("b", 0.01), lambda: it.click("#a"), lambda: it.click("#ab")])()
+        it.quiet()
+        look(it.value("broken") == 0, f"what was shown has changed, {it.value('broken')} times")
+        look(it.value("events.length") > 300, f"200 presses are {it.value('events.length')} entries")
+        times = []
+        for _ in range(20):
+            before = it.value("performance.now()")
+            it.press("a", 0)
+            it.wait("!busy && !again", "a run that ends")
+            times.append(it.value("performance.now()") - before)
+        print(f"play_page: a press is answered in {statistics.median(times):.0f} ms in the middle, by Chromium's protocol")
+
+
+def shapes(served):
+    for width, scheme in ((320, "light"), (320, "dark"), (1280, "dark")):
+        with Page(served.url, width, 800, scheme) as it:
+            it.wait("sums.program !== ''", "the files")
+            look(it.value("document.documentElement.scrollWidth") <= width, f"at {width} columns the page is {it.value('document.documentElement.scrollWidth')} wide")
+            back = it.value("getComputedStyle(document.body).backgroundColor")
+            look((sum(int(one) for one in re.findall(r"\d+", back)[:3]) < 200) == (scheme == "dark"), f"{scheme}: the page is {back}")
+            names = it.value("[...document.querySelectorAll('button, input, select, textarea')].filter((one) => !one.closest('[hidden]') && !(one.labels && one.labels.length) && !one.getAttribute('aria-label') && !one.textContent.trim()).map((one) => one.id)")
+            look(names == [], f"controls without a name: {names}")
+    with Page(served.url, 1280, 900) as it:
+        it.wait("sums.program !== ''", "the files")
+        long = "".join(f"let a{i} = {i} // a line of some length\n" for i in range(1800))[:65000]
+        it.put(long)
+        took = it.value("(() => { const from = performance.now(); for (let i = 0; i < 10; i += 1) drawText(); return (performance.now() - from) / 10; })()")
+        look(took < 16, f"a program of {len(long)} bytes is drawn in {took:.1f} ms")
+        look(it.value("document.querySelectorAll('#shown .row').length") < 80, "rows are drawn that nobody sees")
+
+
+with tempfile.TemporaryDirectory(prefix="play-") as here, Served(here) as there:
+    for part in (used, pressed, shapes):
+        part(there)
+    look(sorted(os.listdir(here)) == ["mine.json", "mine.ts"], f"in the folder are {sorted(os.listdir(here))}")
+print(f"play_page: {tries} looked at, {wrong} wrong")
+sys.exit(1 if wrong else 0)
