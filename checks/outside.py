@@ -81,7 +81,13 @@ def runs(folder):
     if user == 0:
         user = free_user()
         subprocess.run(["chown", "-R", f"{user}:{user}", folder], check=True)
-        order = ["setpriv", f"--reuid={user}", f"--regid={user}", "--clear-groups", "--", *order]
+        # (ssh and others want to know the user: a list with one more name is in the system's place, for this call alone)
+        users = os.path.join(folder, "passwd")
+        shutil.copy("/etc/passwd", users)
+        with open(users, "a", encoding="utf-8") as it:
+            it.write(f"outside:x:{user}:{user}::{home}:/bin/sh\n")
+        known = ["unshare", "--mount", "--", "sh", "-c", 'mount --bind "$0" /etc/passwd && exec "$@"', users]
+        order = [*known, "setpriv", f"--reuid={user}", f"--regid={user}", "--clear-groups", "--", *order]
     environment = {it: os.environ[it] for it in ("PATH", "LANG", "LC_ALL") if it in os.environ} | {"HOME": home, "TMPDIR": temporary}
     # (files of this user's other processes aren't this call's)
     places = {"/dev": None, home: None, temporary: None} | ({"/tmp": user, "/var/tmp": user, "/dev/shm": user} if os.getuid() == 0 else {})
@@ -106,7 +112,7 @@ def main():
     if sys.argv[1:] == ["--words"]:
         print(f"outside: {len(given)} commands give a device as an output")
         sys.exit(1 if given else 0)
-    for it in ("git", "rt", "setpriv"):
+    for it in ("git", "rt", "setpriv", "unshare"):
         if not shutil.which(it):
             print(f"outside: {it} is missing")
             sys.exit(77)
