@@ -4,5 +4,5 @@
 # usage: checks/play_page.sh
 set -eu
 top=$(cd "$(dirname "$0")/.." && pwd)
-command -v chromium >/dev/null || command -v chromium-browser >/dev/null || { echo "play_page: there is no chromium here, so the page isn't looked at"; exit 0; }
+command -v chromium >/dev/null || command -v chromium-browser >/dev/null || { echo "play_page: there is no chromium here, so the page isn't looked at"; exit 77; }
 exec python3 "$top/checks/play_page.py"
