@@ -1,0 +1,6 @@
+#include "checks.h"
+int fib(int n) {
+    if (n < 2) { return n; }
+    return fib(n - 1) + fib(n - 2);
+}
+void program(void) { write(fib(12)); }
