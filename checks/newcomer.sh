@@ -57,12 +57,16 @@ judge 'that nothing is proved, on another day' "$(says "$not_proved" "$folder/er
 judge 'executables kept' "$(find out/compiled -name 'sts.*' | wc -l)" 1
 kept=$(find out/compiled -name 'sts.*')
 cp /bin/true "$kept"
-# ended WORDS..: a call that is ended while it works. (What it started has the name of its temporary folder among its words.)
+# ended WORDS..: a call that is ended while it works, as soon as its temporary folder is there. (What it started has that name among its words.)
 ended() {
     "$@" >/dev/null 2>"$folder/errors" &
-    child=$!
-    sleep 3
-    at=$(find "$folder" -maxdepth 1 -name 'sts-compile.*')
+    child=$! at='' tries=0
+    while [ -z "$at" ] && [ "$tries" -lt 1000 ]; do
+        sleep 0.02
+        at=$(find "$folder" -maxdepth 1 -name 'sts-compile.*')
+        tries=$((tries + 1))
+    done
+    sleep 0.3
     kill "$child" && wait "$child" 2>/dev/null && status=0 || status=$?
     judge "the status of $*, ended" "$status" 143
     judge "what $*, ended, leaves" "$(find "$folder" -maxdepth 1 -name 'sts-compile.*' | wc -l)" 0
