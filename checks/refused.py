@@ -229,7 +229,7 @@ def is_sound(tries):
         os.chmod(f"{tries.folder}/{it}", 0o755)
     told = tries.fault_of(*tries.run([], f"{tries.folder}/{ends}")), tries.fault_of(*tries.run([], f"{tries.folder}/{asks}"))
     tries.write("little.ts", "serial.writeNumber(7)")
-    little = [tries.run(["run", "little.ts"], memory=n << 18) for n in range(20, 200)]
+    little = [tries.run(["run", "little.ts"], memory=n << 16) for n in range(32, 480)]
     wants = [it for it in little if it[0] == WANT]
     right = all(told) and bool(wants) and not any(tries.fault_of(*it) for it in wants)
     if not right:
