@@ -160,12 +160,20 @@ def commands_of(document):
             yield line, shown if shown or block[at].startswith("$ ") else after
 
 
+def opens(line, at):
+    """Whether a call of bin/play, which goes on until it is ended, writes the address of its page."""
+    return re.match(r"http://127\.0\.0\.1:[0-9]+/#\S+\n", bare(f"timeout --signal=INT 5 {line} --no-browser", at)[1]) is not None
+
+
 def use(at):
     """All commands of the documents, and the forms of README's tables, where the kit can't be seen."""
     expect("bare", "the kit", bare(f"command -v rt; ls '{KIT}/bin' '{TOP}/bin'", at)[:2], (2, ""))
     expect("bare", "--version", bare("bin/sts --version", at)[1].split("\n")[0], f"sts {open(f'{at}/VERSION', encoding='utf-8').read().strip()}")
     for document in [f"{at}/README.md", *sorted(glob.glob(f"{at}/docs/*.md"))]:
         for line, shown in commands_of(document):
+            if line.startswith("bin/play "):
+                expect("commands", line, opens(line, at), True)
+                continue
             status, said, errors = bare(line, at)
             if shown is None:
                 expect("commands", line, (status, errors), (0, ""))
@@ -177,6 +185,9 @@ def use(at):
     for row in re.findall(r"(?m)^\| (`(?:sts|bin/\w+) .*?) \|", readme):
         for form in re.findall(r"`((?:sts|bin/\w+) [^`]*)`", row):
             line = " ".join(FILES.get(word, word) for word in form.split(" "))
+            if line.startswith("bin/play "):
+                expect("forms", line, opens(line, at), True)
+                continue
             status, _, errors = bare(line if line.startswith("bin/") else f"bin/{line}", at)
             expect("forms", line, (status, "Traceback" in errors), (0, False))
 
@@ -197,7 +208,7 @@ def install(at, place):
     expect("install", "sts-view", bare(f"{there}/sts-view' examples/counter.txt", here)[1].count("██") > 20, True)
     expect("install", "sts-judge", bare(f"{there}/sts-judge' examples", here)[0], 0)
     expect("install", "sts --help", "sts run P" in bare(f"{there}/sts' --help", here)[1], True)
-    for name in ("sts", "sts-show", "sts-view", "sts-judge"):
+    for name in ("sts", "sts-play", "sts-show", "sts-view", "sts-judge"):
         expect("install", f"the page of {name}", os.path.exists(f"{prefix}/share/man/man1/{name}.1"), True)
 
 
