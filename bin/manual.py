@@ -53,7 +53,7 @@ def body(lines, command):
 
     def close():
         if text:
-            out.extend([*([] if out[-1:] and out[-1].startswith(".SH") else [".PP"]), marked(" ".join(text), command)])
+            out.extend([*([] if not out or out[-1].startswith(".SH") else [".PP"]), marked(" ".join(text), command)])
             text.clear()
         if table:
             if len(table[0]) == 3:
