@@ -240,9 +240,19 @@ def listens(folder):
     look(not left, f"processes are left: {left}")
 
 
+def in_the_way(folder):
+    """A file that a save would write first isn't replaced: bin/play says so, and nothing is opened."""
+    file_of(folder, "game.json.new", b"mine")
+    words = [f"{TOP}/bin/play", f"{folder}/game.ts", "--no-browser"]
+    ran = subprocess.run(words, capture_output=True, text=True, timeout=60, check=False)
+    look((ran.returncode, ran.stdout, "would replace it" in ran.stderr) == (1, "", True), "a file beside the script isn't told")
+    look(read(f"{folder}/game.json.new") == b"mine", "a file beside the script is replaced")
+    os.remove(f"{folder}/game.json.new")
+
+
 with tempfile.TemporaryDirectory(prefix="play-") as here:
     file_of(here, "game.ts", read(f"{TOP}/examples/game.ts"))
-    for part in (statuses, files, runs, cuts, strangers, listens):
+    for part in (statuses, files, runs, cuts, strangers, listens, in_the_way):
         part(here)
 print(f"play: {tries} looked at, {wrong} wrong")
 sys.exit(1 if wrong else 0)
