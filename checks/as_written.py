@@ -3,7 +3,8 @@
 tables of words in README.md and docs/COMMANDS.md is taken, with a file in place of P, S, A, C and H and a number in
 place of N; each example of a refusal in docs/LANGUAGE.md is refused by its code at its place; and each of those that
 TypeScript refuses there (TS and a number) is accepted. A line behind `$ ` may also begin with `cat`, to show a file of
-examples/, or with `echo`, to give text to the program. PROGRAM is sts and VIEW view, as bin/program names them where
+examples/, or with `echo`, to give text to the program; a block behind a line that ends with the name of a file of
+examples/ and a colon is that file. PROGRAM is sts and VIEW view, as bin/program names them where
 they are left out.
 
     checks/as_written.sh [PROGRAM [VIEW]]
@@ -23,7 +24,7 @@ for at, name in enumerate(("sts", "view")):
     shutil.copy(program(given.get(at), name), f"{folder}/bin/{name}")
 shutil.copy(f"{TOP}/bin/show", f"{folder}/bin/show")
 shutil.copytree(f"{TOP}/examples", f"{folder}/examples")
-wrong, counts = [], {"commands": 0, "forms": 0, "refusals": 0, "accepted": 0}
+wrong, counts = [], {"commands": 0, "files": 0, "forms": 0, "refusals": 0, "accepted": 0}
 
 
 def call(line):
@@ -57,6 +58,9 @@ def blocks_of(text):
 for document in [f"{TOP}/README.md", *sorted(glob.glob(f"{TOP}/docs/*.md"))]:
     with open(document, encoding="utf-8") as file:
         text = file.read()
+    for name, block in re.findall(r"`(examples/[^`]*)`(?: in its place)?:\n\n((?:(?:    .*)?\n)+)", text):
+        with open(f"{TOP}/{name}", encoding="utf-8") as file:
+            expect(("files", f"{document}, {name}"), re.sub(r"(?m)^    ", "", block).strip("\n"), file.read().strip("\n"))
     blocks = blocks_of(text)
     for number, block in enumerate(blocks):
         begins = [at for at, line in enumerate(block) if re.match(r"(\$ )?bin/(sts|view|show)\b|\$ (cat|echo) ", line)]

@@ -12,13 +12,13 @@ KEYS = {"a": 65, "b": 66, "Tab": 9, "Enter": 13, " ": 32, "End": 35, "Home": 36,
 
 
 class Browser:
-    """Chromium with one page, of a file or at an address, which was open and drawn after so many seconds."""
+    """Chromium with one page, of a file or at an address, which was open and drawn after so many seconds; further words may be its own options."""
 
-    def __init__(self, file, width, height, scheme="light"):
+    def __init__(self, file, width, height, scheme="light", words=()):
         self.home = tempfile.TemporaryDirectory(ignore_cleanup_errors=True)
         to_it, self.write = os.pipe()
         self.read, from_it = os.pipe()
-        words = [page.chromium(), "--headless", "--no-sandbox", "--disable-gpu", "--disable-background-timer-throttling", "--disable-backgrounding-occluded-windows", "--disable-renderer-backgrounding", f"--user-data-dir={self.home.name}", "--remote-debugging-pipe", "about:blank"]
+        words = [page.chromium(), "--headless", "--no-sandbox", "--disable-gpu", "--disable-background-timer-throttling", "--disable-backgrounding-occluded-windows", "--disable-renderer-backgrounding", f"--user-data-dir={self.home.name}", "--remote-debugging-pipe", *words, "about:blank"]
         self.runs = subprocess.Popen(["sh", "-c", f'exec "$@" 3<&{to_it} 4>&{from_it}', "sh", *words], pass_fds=(to_it, from_it), stdout=subprocess.DEVNULL, stderr=subprocess.DEVNULL)
         os.close(to_it)
         os.close(from_it)

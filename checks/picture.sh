@@ -1,5 +1,5 @@
 #!/bin/sh
-# Makes docs/page.png, the picture with which docs/TEACHERS.md begins: the page of examples/counter.ts on its script at 1200 ms, as headless Chromium shows it (Debian's `chromium`).
+# Makes docs/page.png, a picture of docs/TEACHERS.md: the page of examples/counter.ts on its script at 1200 ms, as headless Chromium shows it (Debian's `chromium`).
 # usage: checks/picture.sh        by hand, where the page changed
 set -eu
 top=$(dirname "$(dirname "$(readlink -f "$0")")")

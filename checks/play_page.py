@@ -1,4 +1,6 @@
 """The page of bin/play in headless Chromium: see play_page.sh."""
+import contextlib
+import http.server
 import json
 import os
 import random
@@ -7,6 +9,7 @@ import statistics
 import subprocess
 import sys
 import tempfile
+import threading
 import time
 
 import page
@@ -147,6 +150,135 @@ def pressed(served):
         print(f"play_page: a press is answered in {statistics.median(times):.0f} ms in the middle, by Chromium's protocol")
 
 
+# What a page of another origin tries, with the key and without it: each gives "answered", or why it isn't.
+TRIES = """(async (target, key) => {
+    const bears = { "X-Play": key }, text = (it) => { if (!it.ok) throw new Error("status " + it.status); return it.text(); };
+    const loads = (name, where, words) => new Promise((yes, no) => { const it = document.createElement(name); it.onload = yes; it.onerror = () => no(new Error("not loaded")); Object.assign(it, words); it[where] = target + "/"; document.body.append(it); });
+    const tries = {
+        "the page is read": () => fetch(target + "/").then(text),
+        "a file is read": () => fetch(target + "/program").then(text),
+        "a file is read with the key": () => fetch(target + "/program", { headers: bears }).then((it) => { if (it.status !== 404) throw new Error("status " + it.status); }),
+        "a run": () => fetch(target + "/run/3/1000", { method: "POST", body: "let" }).then(text),
+        "a run with the key": () => fetch(target + "/run/3/1000", { method: "POST", headers: bears, body: "let" }).then(text),
+        "a run that isn't read": () => fetch(target + "/run/3/1000", { method: "POST", mode: "no-cors", headers: bears, body: "let" }).then((it) => { if (it.type !== "opaque") throw new Error("status " + it.status); }),
+        "a save": () => fetch(target + "/save/program", { method: "POST", headers: { "X-Sum": "none" }, body: "stolen" }).then(text),
+        "a save that isn't read": () => fetch(target + "/save/program", { method: "POST", mode: "no-cors", headers: { ...bears, "X-Sum": "none" }, body: "stolen" }).then((it) => { if (it.type !== "opaque") throw new Error("status " + it.status); }),
+        "a save with the key": () => fetch(target + "/save/script", { method: "POST", headers: { ...bears, "X-Sum": "none" }, body: "stolen" }).then(text),
+        "an image": () => loads("img", "src", {}),
+        "a script": () => loads("script", "src", {}),
+        "a style": () => loads("link", "href", { rel: "stylesheet" }),
+        "a socket": () => new Promise((yes, no) => { const it = new WebSocket(target.replace("http", "ws") + "/"); it.onopen = yes; it.onerror = () => no(new Error("not open")); }),
+    };
+    const came = {};
+    for (const name in tries) came[name] = await tries[name]().then(() => "answered", (error) => String(error));
+    return came;
+})"""
+
+
+class Foreign(http.server.BaseHTTPRequestHandler):
+    """A page of another origin, with a form that posts and a frame that shows what the other origin has."""
+
+    def do_GET(self):
+        self.send_response(200)
+        self.send_header("Content-Type", "text/html")
+        self.end_headers()
+        self.wfile.write(b"<!doctype html><title>foreign</title><body><p>foreign</p></body>")
+
+    def log_message(self, *_):
+        return
+
+
+@contextlib.contextmanager
+def elsewhere():
+    """The address of a page of another origin."""
+    serves = http.server.ThreadingHTTPServer(("127.0.0.1", 0), Foreign)
+    threading.Thread(target=serves.serve_forever, daemon=True).start()
+    try:
+        yield f"http://127.0.0.1:{serves.server_address[1]}/"
+    finally:
+        serves.shutdown()
+
+
+def tried(it, target, key):
+    words = f"{TRIES}({json.dumps(target)}, {json.dumps(key)})"
+    return it.call("Runtime.evaluate", expression=words, awaitPromise=True, returnByValue=True)["result"].get("value", {})
+
+
+def strangers(served):
+    """A page of another origin gets nothing and changes nothing, though it has the key; nor does one that names the listener by another host. The page's own origin gets by the same means what the key gives."""
+    target, key = served.url.split("/#")
+    with elsewhere() as url, Page(url, 800, 600) as it:
+        came = tried(it, target, key)
+        look(len(came) == 13 and "answered" not in came.values(), f"a foreign page gets {[name for name in came if came[name] == 'answered']} of {len(came)}")
+        it.value(f"document.body.insertAdjacentHTML('beforeend', '<iframe name=f id=f src=\"{target}/#{key}\"></iframe>')")
+        it.wait("document.getElementById('f').contentDocument === null", "a frame of another origin")
+        time.sleep(0.5)
+        look(any("frame-ancestors" in one for one in it.told), "a foreign page frames the page")
+        it.value(f"document.body.insertAdjacentHTML('beforeend', '<form id=p method=post enctype=text/plain target=f action=\"{target}/save/program\"><input name=stolen value=1></form>'), document.getElementById('p').submit()")
+        time.sleep(0.5)
+        look(sum(one == f"{target}/save/program" for one in it.asked) >= 3, f"the form wasn't sent: {it.asked[-4:]}")
+    look(not os.path.exists(served.program) and not os.path.exists(served.script), "a foreign page has written a file")
+    named = target.replace("127.0.0.1", "play.example")
+    with Page(f"{named}/#{key}", 800, 600, words=("--host-resolver-rules=MAP play.example 127.0.0.1",)) as it:
+        look(any(one.startswith(named) for one in it.asked) and it.value("document.querySelector('#text') === null") is True, "another name for this machine is answered by the page")
+    with Page(served.url, 800, 600) as it:
+        it.wait("sums.program !== ''", "the files")
+        came = tried(it, target, key)
+        own = ["the page is read", "a file is read with the key", "a run with the key", "a save with the key"]
+        look([name for name in came if came[name] == "answered"] == own, f"the page's own origin gets {came}")
+    for name in (served.program, served.script):
+        with contextlib.suppress(FileNotFoundError):
+            os.remove(name)
+
+
+def lesson(served):
+    """The lesson of docs/TEACHERS.md: its programs are typed, pressed and seen."""
+
+    def typed(it, name):
+        with open(f"{TOP}/examples/lesson/{name}.ts", encoding="utf-8") as file:
+            it.put(file.read())
+        it.quiet()
+        look(it.value("mark") is None, f"lesson: {name} is refused")
+        it.value("document.activeElement.blur()")
+
+    def at(it, moment):
+        """The lights at a moment of the time line."""
+        it.value(f"(() => {{ const line = document.getElementById('time'); line.value = {moment}; line.dispatchEvent(new Event('input', {{ bubbles: true }})); }})()")
+        return it.lights()
+
+    heart, small = ".#.#./#####/#####/.###./..#..", "...../.#.#./.###./..#../....."
+    with Page(served.url, 1280, 900) as it:
+        it.wait("sums.program !== ''", "the files")
+        typed(it, "picture")
+        it.click("#anew")
+        it.wait("time > 0", "a clock that goes on")
+        look(it.lights() == heart, f"lesson: the picture is {it.lights()}")
+        typed(it, "beat")
+        it.click("#anew")
+        it.wait("time > 1000", "a second")
+        look([at(it, moment) for moment in (399, 400, 819, 820)] == [small, heart, heart, small], "lesson: the heart beats otherwise")
+        typed(it, "walk")
+        it.click("#anew")
+        it.wait("document.getElementById('closing').textContent.startsWith('The board waits')", "a board that waits")
+        look(it.lights() == "...../...../..#../...../.....", f"lesson: the light begins as {it.lights()}")
+        for name in "bbba":
+            it.press(name)
+            time.sleep(0.3)
+        it.quiet()
+        it.wait("document.querySelectorAll('.light.on').length === 1", "one light")
+        walked = "...../...../...#./...../....."
+        look(it.lights() == walked and it.text("#count") == "8 entries", f"lesson: the light has walked to {it.lights()}, by {it.text('#count')}")
+        it.click("#rewind")
+        it.wait("document.getElementById('closing').textContent.startsWith('The board waits')", "the presses once more")
+        look(it.lights() == walked, f"lesson: once more it has walked to {it.lights()}")
+        typed(it, "catch")
+        it.value("(() => { const it = document.getElementById('speed'); it.value = '0.0625'; it.dispatchEvent(new Event('change')); })()")
+        it.click("#anew")
+        it.wait("time > 230", "the light in the middle")
+        it.press("a")
+        it.wait("document.getElementById('serial').textContent === '1 points\\r\\n'", "a point")
+
+
 def shapes(served):
     for width, scheme in ((320, "light"), (320, "dark"), (1280, "dark")):
         with Page(served.url, width, 800, scheme) as it:
@@ -166,7 +298,7 @@ def shapes(served):
 
 
 with tempfile.TemporaryDirectory(prefix="play-") as here, Served(here) as there:
-    for part in (used, pressed, shapes):
+    for part in (strangers, used, pressed, lesson, shapes):
         part(there)
     look(sorted(os.listdir(here)) == ["mine.json", "mine.ts"], f"in the folder are {sorted(os.listdir(here))}")
 print(f"play_page: {tries} looked at, {wrong} wrong")
