@@ -6,3 +6,5 @@ mod Parts
 mod Pictures
 mod Rows
 mod Page
+mod Apart
+mod Short

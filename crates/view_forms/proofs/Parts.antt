@@ -19,7 +19,7 @@ cut-at i xs c h k =
       | inr le ↦ absurd (omega (arith, sym (get_or_past xs i 0 le) ∙ h, k))
     ]
 
-number-ends : (line : List ℕ) → (number_size line ≡ 0) ⊎ ((get_or line (number_size line) 0 ≡ 32) × ((number_size line ≡ prefix_len is_ascii_digit line) × ((1 ≤ number_size line) × (number_size line ≤ 10))))
+pub number-ends : (line : List ℕ) → (number_size line ≡ 0) ⊎ ((get_or line (number_size line) 0 ≡ 32) × ((number_size line ≡ prefix_len is_ascii_digit line) × ((1 ≤ number_size line) × (number_size line ≤ 10))))
 number-ends line =
     let n = prefix_len is_ascii_digit line in
     elim (cases_Bool (nat_le 1 n && (nat_le n 10 && (get_or line n 0 == 32)))) as (λ _. (number_size line ≡ 0) ⊎ ((get_or line (number_size line) 0 ≡ 32) × ((number_size line ≡ prefix_len is_ascii_digit line) × ((1 ≤ number_size line) × (number_size line ≤ 10))))) [

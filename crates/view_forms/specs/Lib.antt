@@ -4,6 +4,7 @@ pub mod Pictures
 pub mod Notes
 pub mod Below
 pub mod Short
+pub mod Kept
 pub mod Rows
 pub mod Reading
 pub mod Page

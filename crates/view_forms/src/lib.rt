@@ -7,5 +7,8 @@ mod laws;
 mod notes;
 
 pub use below::Below;
-pub use laws::{lines_come_back, pages_tell_all, transcripts_are_no_markup};
+pub use laws::{
+    joined_texts_are_whole, lines_come_back, pages_tell_all, transcripts_are_no_markup,
+    what_is_left_out_is_counted,
+};
 pub use notes::{NOTES, Note};
