@@ -335,7 +335,7 @@ def told():
             expect("pressed: the serial text, its mark of direction as a number", "\\u202e\u00fc\n", it.value("document.querySelector('.rest pre').textContent"))
             it.value("document.getElementById('time').focus()")
             it.key("End")
-            expect("pressed: how it ended", ["panic 500 105", "something is used that is `null`: make it with `new` before it is used; test `!= null`"], it.value("['closing', 'says'].map((it) => document.querySelector('.' + it).textContent)"))
+            expect("pressed: how it ended", ["panic 500 105", "something is used that is `null`: make it with `new`, a list by `= []` and a text by `= \"\"`, before it is used; test `!= null`"], it.value("['closing', 'says'].map((it) => document.querySelector('.' + it).textContent)"))
             expect("pressed: the speeds", "0.0625", it.value("document.getElementById('speed').options[0].value"))
             expect("pressed: what went wrong", [], it.told)
             count += 9

@@ -47,7 +47,7 @@ pub const NOTES: [Note; 56] = [
     Note {
         begins: "panic ",
         ends: " 105",
-        says: "something is used that is `null`: make it with `new` before it is used; test `!= null`",
+        says: "something is used that is `null`: make it with `new`, a list by `= []` and a text by `= \"\"`, before it is used; test `!= null`",
     },
     Note {
         begins: "panic ",
