@@ -19,7 +19,7 @@ from typing import Callable, Iterator
 
 WAIT = 60  # seconds beyond those of a run in which a machine may be silent
 OPTIONS = ("-o", "BatchMode=yes", "-o", "ConnectTimeout=10", "-T")
-FILES = ("judge", "judge_hosts.py", "judge_page.py", "judge_rows.py")
+FILES = ("judge", "judge_folder.py", "judge_hosts.py", "judge_page.py", "judge_rows.py")
 # What runs there first: it reads a size of 20 digits and as many bytes of a tar file, unpacks it, and becomes the judge that it finds there.
 FIRST = (
     "import io,os,sys,tarfile,tempfile\n"
@@ -80,7 +80,7 @@ def packed(program: str) -> bytes:
 def frame(case) -> bytes | None:
     """Gives a case with its files as they go to a machine: a line of JSON with their sizes, and the files; nothing where one can't be read."""
     parts = {}
-    for part in ("text", "script", "wanted"):
+    for part in ("text", "script", "wanted", "arrivals"):
         path = getattr(case, part)
         if path:
             if not os.path.isfile(path):
@@ -217,8 +217,10 @@ class Elsewhere:
             it.join()
 
     def outcomes(self, cases: list) -> Iterator[dict]:
-        """Gives what came of cases, as it comes: first from the machines, then of what didn't come to an end there."""
-        left = {case.number: case for case in cases if not case.lacks}
+        """Gives what came of cases, as it comes: first from the machines, then of classes and of what didn't come to an end there."""
+        # (a class names files of this machine)
+        here = [case for case in cases if case.lacks or case.is_class]
+        left = {case.number: case for case in cases if not (case.lacks or case.is_class)}
         for case in left.values():
             self.waiting.put(case)
         self.whole = packed(self.here.program)
@@ -237,7 +239,7 @@ class Elsewhere:
             self.stop()
         if left:
             self.tell(f"{len(left)} runs came to no end on the other machines, and are done here")
-        for it in self.here.outcomes([case for case in cases if case.lacks or case.number in left]):
+        for it in self.here.outcomes([*here, *left.values()]):
             yield dataclasses.asdict(it)
 
 def write_all(file, text: bytes) -> None:
@@ -268,7 +270,7 @@ def case_of(file, line: bytes, folder: str, make):
         paths[part] = os.path.join(folder, f"{head['number']}.{part}")
         with open(paths[part], "wb") as out:
             out.write(exactly(file, size))
-    return make(head["number"], paths["text"], paths.get("script"), paths.get("wanted"))
+    return make(head["number"], paths["text"], paths.get("script"), paths.get("wanted"), arrivals=paths.get("arrivals"))
 
 
 def serve(folder: str, runner, make) -> int:
@@ -281,7 +283,7 @@ def serve(folder: str, runner, make) -> int:
 
     def judge(case) -> None:
         told(dataclasses.asdict(runner.judge(case)))
-        for path in filter(None, (case.text, case.script, case.wanted)):
+        for path in filter(None, (case.text, case.script, case.wanted, case.arrivals)):
             os.unlink(path)
 
     try:

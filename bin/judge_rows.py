@@ -16,7 +16,8 @@ MODES = ("text", "pictures")
 AT_MOMENT = re.compile(rb"((?:\d )?(?:end |panic |budget |fault )?)(\d{1,10})((?: .*)?\n?)", re.S)
 SERIAL = re.compile(rb"(?:\d )?\d{1,10} serial ((?:[0-9a-f]{2})*)\n?")
 DISPLAY = re.compile(rb"(?:\d )?(\d{1,10}) display ([.#]{5}(?:/[.#]{5}){4})\n?")
-CLOSING = re.compile(rb"(?:\d )?(end|panic|budget|fault|refused|script refused)\b(?: \d+)?(.*)\n?")
+CLOSING = re.compile(rb"(?:\d )?(end|panic|budget|fault|refused|script refused|class refused|arrivals refused)\b(?: \d+)?(.*)\n?")
+BOARD = re.compile(rb"(\d) (?=\d{1,10} |(?:end|panic|budget|fault|refused|script refused) )")
 
 
 @dataclasses.dataclass(frozen=True)
@@ -42,6 +43,7 @@ class Difference:
     kind: str = "line"
     same: int | None = None
     rows: int | None = None
+    board: bytes = b""
 
     def says(self) -> str:
         if self.wanted and (not self.came or self.came == self.next_wanted):
@@ -50,7 +52,8 @@ class Difference:
             what = "is one too many"
         else:
             what = "differs"
-        return f"{self.kind} {what}" if self.kind == "the closing line" else f"{self.kind} {self.row} {what}"
+        of = f" of board {self.board.decode()}" if self.board else ""
+        return f"{self.kind}{of} {what}" if self.kind == "the closing line" else f"{self.kind} {self.row}{of} {what}"
 
 
 @dataclasses.dataclass
@@ -126,24 +129,28 @@ def last_line(output: io.BufferedReader) -> bytes:
 # By meaning.
 
 
+def board_of(line: bytes) -> bytes:
+    """Gives the number of the board with which a line of a class begins, or nothing."""
+    found = BOARD.match(line)
+    return found[1] if found else b""
+
+
+def bare(line: bytes) -> bytes:
+    """Gives a line without the number of its board."""
+    return line[len(found[0]):] if (found := BOARD.match(line)) else line
+
+
 @dataclasses.dataclass
 class Meaning:
-    """What lines mean: the bytes at the serial port, the last picture of each moment, how the run closed, and its last line."""
+    """What the lines of a board mean: the bytes at the serial port, the last picture of each moment, how the run closed, and its last line."""
 
     text: bytearray = dataclasses.field(default_factory=bytearray)
     pictures: list[tuple[int, bytes]] = dataclasses.field(default_factory=list)
     lines: list[bytes] = dataclasses.field(default_factory=list)
-    size: int = 0
     closing: bytes = b""
     last: bytes = b""
-    is_whole: bool = True
 
     def take(self, line: bytes, wish: Wish) -> None:
-        self.last = line
-        self.size += len(line)
-        if self.size > MOST_OF_MEANING:
-            self.is_whole = False
-            return
         if not wish.modes:
             self.lines.append(line)
         elif found := SERIAL.fullmatch(line):
@@ -155,13 +162,35 @@ class Meaning:
             self.pictures.append((moment, found[2]))
         if found := CLOSING.match(line):
             self.closing = found[1]
+            self.last = line
 
 
-def meaning_of(lines: Iterable[bytes], wish: Wish) -> Meaning:
-    meaning = Meaning()
+@dataclasses.dataclass
+class Meanings:
+    """What an output means, by boards, and its last line. A run of one board has one, without a number."""
+
+    boards: dict[bytes, Meaning] = dataclasses.field(default_factory=dict)
+    size: int = 0
+    last: bytes = b""
+    is_whole: bool = True
+
+    def take(self, line: bytes, wish: Wish) -> None:
+        self.last = line
+        self.size += len(line)
+        if self.size > MOST_OF_MEANING:
+            self.is_whole = False
+            return
+        self.boards.setdefault(board_of(line), Meaning()).take(line, wish)
+
+    def of(self, board: bytes) -> Meaning:
+        return self.boards.get(board) or Meaning()
+
+
+def meanings_of(lines: Iterable[bytes], wish: Wish) -> Meanings:
+    meanings = Meanings()
     for line in lines:
-        meaning.take(line, wish)
-    return meaning
+        meanings.take(line, wish)
+    return meanings
 
 
 def rows_of(meaning: Meaning, mode: str) -> list[bytes]:
@@ -189,32 +218,49 @@ def is_same(within: int | None) -> Callable[[bytes, bytes], bool]:
     return test
 
 
-def difference(wanted: list[bytes], came: list[bytes], mode: str, within: int | None) -> Difference | None:
+def counted(wanted: list[bytes], came: list[bytes], test: Callable[[bytes, bytes], bool]) -> tuple[int, int] | None:
+    """Gives how many rows are the same, of how many, where both sides are short enough to be counted."""
+    if max(len(wanted), len(came)) > MOST_TO_COUNT:
+        return None
+    # (rows that are the same by the test are counted as if they were equal)
+    stand = [wanted[i] if i < len(wanted) and test(wanted[i], row) else row for i, row in enumerate(came)]
+    return count_same(wanted, stand), max(len(wanted), len(came))
+
+
+def difference(wanted: list[bytes], came: list[bytes], mode: str, test: Callable[[bytes, bytes], bool]) -> Difference | None:
     """Gives where rows differ first, if they do."""
-    test = is_same(None if mode == "text" else within)
     at = next((i for i, (a, b) in enumerate(zip(wanted, came)) if not test(a, b)), min(len(wanted), len(came)))
     if at == len(wanted) == len(came):
         return None
     kind = {"text": "line of text", "pictures": "picture"}.get(mode, "line")
     parts = [(rows[at : at + 2] + [b"", b""])[:2] for rows in (wanted, came)]
-    # (rows that are the same by the test are counted as if they were equal)
-    stand = [wanted[i] if i < len(wanted) and test(wanted[i], row) else row for i, row in enumerate(came)]
-    counted = (count_same(wanted, stand), max(len(wanted), len(came))) if max(len(wanted), len(came)) <= MOST_TO_COUNT else (None, None)
-    return Difference(at + 1, parts[0][0], parts[1][0], parts[0][1], parts[1][1], kind, *counted)
+    return Difference(at + 1, parts[0][0], parts[1][0], parts[0][1], parts[1][1], kind)
+
+
+def difference_of(wanted: Meanings, came: Meanings, mode: str, within: int | None) -> Difference | None:
+    """Gives where the rows of a board differ first, if they do, with the count of those of all boards that are the same."""
+    test = is_same(None if mode == "text" else within)
+    rows = {board: (rows_of(wanted.of(board), mode), rows_of(came.of(board), mode)) for board in sorted({*wanted.boards, *came.boards})}
+    for board, pair in rows.items():
+        if found := difference(*pair, mode, test):
+            counts = [counted(*it, test) for it in rows.values()]
+            same, whole = (None, None) if None in counts else (sum(it) for it in zip(*counts))
+            return dataclasses.replace(found, same=same, rows=whole, board=board)
+    return None
 
 
 def compare_meaning(output: io.BufferedReader, wanted: BinaryIO, wish: Wish) -> tuple[Difference | None, bytes]:
     """Reads an output to its end. Gives where it differs first by meaning from what is wanted, if it does, and its last line."""
-    due = meaning_of(iter(lambda: wanted_line(wanted), b""), wish)
-    came = meaning_of(iter(lambda: output.readline(PIECE), b""), wish)
+    due = meanings_of(iter(lambda: wanted_line(wanted), b""), wish)
+    came = meanings_of(iter(lambda: output.readline(PIECE), b""), wish)
     if not (due.is_whole and came.is_whole):
         return Difference(1, b"", b"more than is compared by meaning", b"", b""), came.last
     for mode in wish.modes or ("lines",):
-        found = difference(rows_of(due, mode), rows_of(came, mode), mode, wish.within)
-        if found:
+        if found := difference_of(due, came, mode, wish.within):
             return found, came.last
-    if due.closing != came.closing:
-        return Difference(1, due.last, came.last, b"", b"", "the closing line"), came.last
+    for board in sorted({*due.boards, *came.boards}):
+        if due.of(board).closing != came.of(board).closing:
+            return Difference(1, due.of(board).last or due.last, came.of(board).last or came.last, b"", b"", "the closing line", board=board), came.last
     return None, came.last
 
 

@@ -443,16 +443,106 @@ def look_at_tasks():
         expect(f"tasks {words}", judge(*words)[0], 2)
     shutil.copytree(f"{TOP}/examples/lesson", f"{FOLDER}/lesson")
     put("lesson/lamp.arrivals.json", '{"arrivals": []}')
-    put("lesson/lamp.class.txt", "0 end 0 quiet\n")
+    put("lesson/other.arrivals.json", '{"arrivals": []}')
     put("lesson/stray.txt", "")
     put("lesson/notes.md", "")
     put("lesson/\x1b.odd", "")
     status, said, error = judge("lesson")
-    for line in ("lesson/lamp.class.json: a class file, which `sts class` runs", "lesson/lamp.arrivals.json: arrivals, which `sts run-at` takes", "lesson/lamp.class.txt: it is wanted of lamp.class.json, which is a class file",
-                 "lesson/stray.txt: no program has the name with which it begins", "lesson/notes.md: no program: its name doesn't end with .ts", "lesson/\\x1b.odd: no program: its name doesn't end with .ts"):
+    for line in ("lesson/lamp.class.json: a class file, which `sts class` runs, and no lamp.class.txt says what is wanted",
+                 "lesson/lamp.arrivals.json: arrivals, which `sts run-at` takes, and no lamp.arrivals.txt says what is wanted",
+                 "lesson/other.arrivals.json: arrivals, which `sts run-at` takes, and no program has the name with which they begin", "lesson/stray.txt: no program has the name with which it begins", "lesson/notes.md: no program: its name doesn't end with .ts", "lesson/\\x1b.odd: no program: its name doesn't end with .ts"):
         expect_in("what is left out", f"left out        {line}\n", said)
     expect("no class file is a script", re.findall(r"class\.json[:,] .*refused", said), [])
     expect("a class file as a task", judge("tasks", "--task", "lesson/lamp.class.json")[0], 2)
+
+
+def class_of(*boards):
+    """The text of a class file of boards, each the names of its program and its script in classes/."""
+    return json.dumps({"end": 3000, "boards": [{"program": f"classes/{program}", "script": f"classes/{script}"} for program, script in boards], "lose": []})
+
+
+def look_at_classes():
+    """Class files are run as `sts class` runs them, where it is said what is wanted, and compared as others are; files that they name are run by themselves only where something is wanted of them."""
+    for it in ("ping.ts", "ping.json", "pong.ts", "no_events.json"):
+        shutil.copy(f"{TOP}/examples/class/{it}", put(f"classes/{it}", ""))
+    wanted = open(f"{TOP}/examples/class/ping_pong.txt", "rb").read()
+    game = class_of(("ping.ts", "ping.json"), ("pong.ts", "no_events.json"))
+    put("classes/broken.ts", "let b =\n")
+    put("classes/panics.ts", "control.panic(7)\n")
+    put("classes/waits.ts", "basic.pause(1)\n")
+    put("classes/wrong.json", '{"end": 3000, "events": [{"at": 5, "do": "press"}]}')
+    put("classes/game.class.json", game)
+    put("classes/game.txt", wanted)
+    for name, text, given in (
+        ("late", game, wanted.replace(b"1 383 radio 4", b"1 384 radio 4")),
+        ("refused", class_of(("ping.ts", "ping.json"), ("broken.ts", "no_events.json")), b"0 end 0 quiet\n"),
+        ("refused as wanted", class_of(("ping.ts", "ping.json"), ("broken.ts", "no_events.json")), b"1 refused 6 2 1\n"),
+        ("script", class_of(("ping.ts", "ping.json"), ("pong.ts", "wrong.json")), b"0 end 0 quiet\n"),
+        ("empty", class_of(), b"0 end 0 quiet\n"),
+        ("missing", class_of(("ping.ts", "ping.json"), ("nowhere.ts", "no_events.json")), b"0 end 0 quiet\n"),
+        ("panic", class_of(("panics.ts", "no_events.json"), ("waits.ts", "no_events.json")), b"0 panic 0 7\n1 end 1 quiet\n"),
+    ):
+        put(f"classes/{name}.class.json", text)
+        put(f"classes/{name}.class.txt", given)
+    status, said, found, programs = judged("classes")
+    expect("classes", (status, found), (1, counts(passed=3, failed=1, refused=3, not_run=1)))
+    runs = {name.removesuffix(".class.json"): [(it["name"], it["verdict"], it["says"]) for it in program["runs"]] for name, program in programs.items()}
+    says = {"late": ("failed", "line 9 differs"), "refused": ("refused", "the program of board 1 is refused by code 6 at line 2, column 1"), "script": ("refused", "1 script refused 2"),
+            "empty": ("refused", "class refused 3"), "missing": ("not run", "there is no file classes/nowhere.ts, which board 1 names: it is looked up from the folder of this command")}
+    expect("classes, each", runs, {it: [(f"{it}.class.json", *says.get(it, ("passed", "")))] for it in ("game", "refused as wanted", "panic", *says)})
+    expect_in("a class's refusal by its text", "refused by code 6 at line 2, column 1\n        A value is missing after this sign.\n", said)
+    expect_in("a class's script", '1 script refused 2\n        line 1: entry 1: "do" is "down", "up", "raise" or "unplug"; here it is "press"', said)
+    expect("a class by its name", judged("classes/game.class.json")[2], counts(passed=1))
+    expect("a program of a class by its name", judged("classes/waits.ts")[2], counts(no_wanted_file=1))
+    put("classes/ping.txt", "180 radio 1\nend 180 quiet\n")
+    expect("a program of a class of which something is wanted", judged("classes")[3]["ping.ts"]["verdict"], "passed")
+    put("hosts", ":\n")
+    expect("classes, by --hosts", judged("classes", "--hosts", "hosts")[2], counts(passed=4, failed=1, refused=3, not_run=1))
+    look_at_boards(game, wanted)
+
+
+def look_at_boards(game, wanted):
+    """By meaning each board is compared by itself."""
+    late = re.sub(rb"(?m)^(\d (?:end )?)(\d+)", lambda it: it[1] + b"%d" % (int(it[2]) + 2), wanted)
+    put("boards/late.class.json", game)
+    put("boards/late.class.txt", b"".join(sorted(late.splitlines(keepends=True), key=lambda it: it[:1])))
+    put("boards/text.class.json", game)
+    put("boards/text.class.txt", wanted.replace(b"0 384 serial 34", b"0 384 serial 39"))
+    put("boards/picture.class.json", game)
+    put("boards/picture.class.txt", wanted.replace(b"1 283 display ...../...../..#..", b"1 283 display ...../...../.##.."))
+    put("boards/closed.class.json", game)
+    put("boards/closed.class.txt", wanted.replace(b"1 end 486 quiet", b"1 panic 486 7"))
+    for words, passed in (((), set()), (("--compare", "text"), {"late", "picture"}), (("--compare", "pictures", "--within", "2"), {"late", "text"}), (("--within", "2"), {"late"})):
+        _, said, _, programs = judged("boards", *words)
+        expect(f"boards {words}", {it.removesuffix(".class.json") for it, program in programs.items() if program["verdict"] == "passed"}, passed)
+        for mode, line in (("text", "text.class.json: line of text 1 of board 0 differs: 0 of 1 rows are as wanted"), ("text", "closed.class.json: the closing line of board 1 differs"),
+                           ("pictures", "picture.class.json: picture 3 of board 1 differs: 5 of 6 rows are as wanted")):
+            if mode in words:
+                expect_in(f"boards {words}", f"    {line}\n", said)
+
+
+def look_at_arrivals():
+    """Arrivals are given to `sts run-at` with their program and its script."""
+    for it in os.listdir(f"{TOP}/examples/arrivals"):
+        for name in ("good", "both", "odd", "other"):
+            shutil.copy(f"{TOP}/examples/arrivals/{it}", put(f"arrive/{it.replace('polling', name)}", ""))
+    put("arrive/both.arrivals.txt", open(f"{TOP}/examples/arrivals/polling.txt", "rb").read())
+    put("arrive/both.txt", "budget 0\n")
+    put("arrive/odd.arrivals.json", '{"arrivals": [{"after": 9, "do": "down", "button": "A"}, {"after": 5, "do": "up", "button": "A"}]}')
+    put("arrive/other.txt", "0 serial 646f776e\n0 serial 7571\nend 0 quiet\n")
+    shutil.copy(f"{TOP}/examples/arrivals/polling.ts", put("arrive/scriptless.ts", ""))
+    put("arrive/scriptless.arrivals.json", '{"arrivals": []}')
+    put("arrive/scriptless.arrivals.txt", "budget 0\n")
+    for more in ((), ("--hosts", "hosts")):
+        put("hosts", ":\n")
+        status, said, found, programs = judged("arrive", "--budget", "100000", *more)
+        expect(f"arrivals {more}", (status, found), (1, counts(passed=2, failed=1, refused=1, not_run=1)))
+        runs = {name: [(it["name"], it["verdict"], it["says"]) for it in program["runs"]] for name, program in programs.items()}
+        expect(f"arrivals {more}, each", runs, {
+            "good.ts": [("good.arrivals.json", "passed", "")], "both.ts": [("both.json", "passed", ""), ("both.arrivals.json", "passed", "")],
+            "odd.ts": [("odd.arrivals.json", "refused", "arrivals refused 3")], "other.ts": [("other.arrivals.json", "failed", "line 2 differs")],
+            "scriptless.ts": [("scriptless.arrivals.json", "not run", "there is no script scriptless.json, which goes with arrivals")]})
+        expect_in("refused arrivals", "arrivals refused 3\n        line 1: arrival 2: 5 comes after 9\n", said)
 
 
 def look_at_files():
@@ -501,7 +591,7 @@ def look_at_documents():
     expect("commands in the documents", shown > 0, True)
 
 
-for look in (look_at_examples, look_at_wrong_copies, look_at_odd_folders, look_at_stubs, look_at_loops, look_at_words, look_at_meanings, look_at_tasks, look_at_files, look_at_killed_runs,
+for look in (look_at_examples, look_at_wrong_copies, look_at_odd_folders, look_at_stubs, look_at_loops, look_at_words, look_at_meanings, look_at_tasks, look_at_classes, look_at_arrivals, look_at_files, look_at_killed_runs,
              look_at_interrupts, look_at_terminal, look_at_hosts, look_at_documents):
     look()
 print(f"judge: {looked} things looked at, {wrong} wrong")
