@@ -19,7 +19,7 @@ from typing import Callable, Iterator
 
 WAIT = 60  # seconds beyond those of a run in which a machine may be silent
 OPTIONS = ("-o", "BatchMode=yes", "-o", "ConnectTimeout=10", "-T")
-FILES = ("judge", "judge_folder.py", "judge_hosts.py", "judge_page.py", "judge_rows.py")
+FILES = ("judge", "judge_folder.py", "judge_hosts.py", "judge_page.py", "judge_rows.py", "printable.py")
 # What runs there first: it reads a size of 20 digits and as many bytes of a tar file, unpacks it, and becomes the judge that it finds there.
 FIRST = (
     "import io,os,sys,tarfile,tempfile\n"

@@ -7,7 +7,16 @@ umask 022
 # The programs that stand in bin/ and have a module in made/, each a crate of crates.txt with a main.rt.
 # shellcheck disable=SC2034
 programs='sts view play'
-say() { printf 'sts: %s\n' "$*" >&2; }
+# A sentence. What ASCII doesn't print, as in a folder's name, is told by its digits.
+say() {
+    case $* in
+    *[!\ -~]*) printf 'sts: %s' "$*" | awk 'BEGIN { for (it = 1; it < 256; it++) digits[sprintf("%c", it)] = sprintf("\\x%02x", it) }
+        NR > 1 { printf "\\x0a" }
+        { for (at = 1; at <= length($0); at++) { it = substr($0, at, 1); printf "%s", it ~ /[ -~]/ ? it : digits[it] } }
+        END { print "" }' >&2 ;;
+    *) printf 'sts: %s\n' "$*" >&2 ;;
+    esac
+}
 
 self=$(readlink -f -- "$0") && user=$(id -u) && owner=$(stat -c %u -- "$self") || exit 125
 # (cut by the shell: a command's output would lose a line's end in a folder's name)

@@ -563,6 +563,7 @@ def look_at_files():
         page = file.read()
     expect("names in a page", ("&lt;b&gt;\\x1b\\xe2\\x80\\xae.ts" in page, "<b>" in page, "\x1b" in page + said, "\u202e" in page + said), (True, False, False, False))
     expect_in("a page", "1 programs: 1 failed", page)
+    expect("a word that isn't taken", judge("names", "--\x1b\u202e")[2].split("\n")[-2], "judge: error: unrecognized arguments: --\\x1b\\xe2\\x80\\xae")
     with open("/dev/full", "wb") as full:
         child = begin("stubs", stdout=full)
         error = child.communicate(timeout=60)[1].decode()

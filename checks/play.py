@@ -250,9 +250,17 @@ def in_the_way(folder):
     os.remove(f"{folder}/game.json.new")
 
 
+def names_told(folder):
+    """Names in what bin/play says, with what isn't seen by its digits."""
+    for words, says in (([f"{folder}/\u202e/a.ts"], f"{folder}/\\xe2\\x80\\xae/a.ts: there is no such folder\n"), ([f"{folder}/\x1b.ts", f"{folder}/\x1b.ts"], f"{folder}/\\x1b.ts: the script has the same name: name another one after it\n"),
+                        ([f"{folder}/a.ts", "b", "\u2028"], "unrecognized arguments: \\xe2\\x80\\xa8\n")):
+        ran = subprocess.run([f"{TOP}/bin/play", *words, "--no-browser"], capture_output=True, text=True, timeout=60, check=False)
+        look(ran.stdout == "" and ran.stderr.endswith(says), f"bin/play {words} says {ran.stderr!r}")
+
+
 with tempfile.TemporaryDirectory(prefix="play-") as here:
     file_of(here, "game.ts", read(f"{TOP}/examples/game.ts"))
-    for part in (statuses, files, runs, cuts, strangers, listens, in_the_way):
+    for part in (statuses, files, runs, cuts, strangers, listens, in_the_way, names_told):
         part(here)
 print(f"play: {tries} looked at, {wrong} wrong")
 sys.exit(1 if wrong else 0)

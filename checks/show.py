@@ -123,9 +123,11 @@ def classes():
 
 def unread():
     for words, status, says in ((("gone.ts",), 21, "gone.ts: there is no such file\n"), (("hears.ts", "gone.json"), 21, "gone.json: there is no such file\n"), (("hears.ts", "small.json"), 11, 'small.json:1: entry 1: "button" is "A" or "B", in capitals'),
-                                (("\u202e.ts",), 21, "\\xe2\\x80\\xae.ts: there is no such file\n"), ((FOLDER,), 20, f"{FOLDER}: it couldn't be read\n")):
+                                (("\u202e.ts",), 21, "\\xe2\\x80\\xae.ts: there is no such file\n"), (("\U000e0041\u00fc.ts",), 21, "\\xf3\\xa0\\x81\\x81\u00fc.ts: there is no such file\n"), ((FOLDER,), 20, f"{FOLDER}: it couldn't be read\n")):
         came, said, _ = show(*words)
         expect(f"show {words}", (status, says), (came, said[:len(says)]))
+    came, said, error = show("hears.ts", "a", "b", "\u202e\x1b")
+    expect("a word that isn't taken", (2, "", "bin/show: error: unrecognized arguments: \\xe2\\x80\\xae\\x1b"), (came, said, error.split("\n")[-2]))
 
 
 def pages():
