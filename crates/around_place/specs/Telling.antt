@@ -1,5 +1,5 @@
 -- What the refusal of a text at a place means.
-use Rattle.std.specs.Prelude.{◌≡◌, ℕ, ◌-◌, ◌≤◌, List, take, drop, length, slice_range, Option, Some, None}
+use Rattle.std.specs.Prelude.{◌≡◌, ℕ, ◌-◌, ◌≤◌, ◌⊎◌, List, take, drop, length, slice_range, Option, Some, None}
 use Rattle.std.specs.Option.{option_map, MatchOption}
 use Rattle.sts_base.specs.Places.{IsPlace}
 use Rattle.around_place.specs.declared.explaining.Explanation.{Explanation}
@@ -47,8 +47,8 @@ Explains tables other text at column said =
     (seen : Surroundings) → StandsAround text at column seen → (found : Option Row)
     × (IsFirstOf tables seen found × IsSaid found other text at (innermost_bracket (take at text) seen.before) said)
 
--- a place of that line and column, where the text has one
+-- a place of that line and column, or the text's end where it has none
 abbrev pub IsFound : List ℕ → ℕ → ℕ → ℕ → Type 0
 IsFound text line column at =
-    (at ≤ length text)
-    × ((other : ℕ) → other ≤ length text → IsPlace text other line column → IsPlace text at line column)
+    ((at ≤ length text) × IsPlace text at line column)
+    ⊎ ((at ≡ length text) × ((other : ℕ) → other ≤ length text → IsPlace text other line column → ⊥))

@@ -1,7 +1,8 @@
 // Places of a text, by line and column.
 ghost use Rattle.std.specs.Prelude.{◌≡◌, ℕ, ◌<◌, ◌≤◌, length, MatchBool};
 ghost use Rattle.around_place.specs.Around.{IsLineColumn};
-ghost use Rattle.sts_base.specs.Places.{IsPlace, begins_line};
+ghost use Rattle.around_place.specs.Telling.{IsFound};
+ghost use Rattle.sts_base.specs.Places.{begins_line};
 
 /// Whether a line begins at a place behind the first.
 fn begins_line(text: &[u8], at: usize) -> bool
@@ -27,8 +28,7 @@ fn is_there(lines: usize, start: usize, at: usize, line: u32, column: u32) -> bo
 /// The place of a line and a column, both from 1, in bytes from the beginning of a text; its end where it has no such place.
 pub fn place_at(text: &[u8], line: u32, column: u32) -> usize
     ensures within { result ≤ length text.now }
-    ensures place { (at : ℕ) → at ≤ length text.now → IsPlace text.now at line column
-        → IsPlace text.now result line column }
+    ensures found { IsFound text.now line column result }
 {
     if is_there(1, 0, 0, line, column) {
         return 0;

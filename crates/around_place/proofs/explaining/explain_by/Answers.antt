@@ -14,7 +14,7 @@ returns-in-Some c =
     λ words read. bracket-known c.innermost-bracket.result (innermost_bracket before words) c.bracket_of-byte.result c.bracket_of-byte.ensures (c.innermost-bracket.ensures words read) in (
       c.place_at-at.result,
       (
-        (c.place_at-at.ensures.within, c.place_at-at.ensures.place),
+        c.place_at-at.ensures.found,
         λ seen stands. (
           Some c.in-Some.row.now,
           (
@@ -40,7 +40,7 @@ returns-in-None c =
     λ words read. bracket-known c.innermost-bracket.result (innermost_bracket before words) c.bracket_of-byte.result c.bracket_of-byte.ensures (c.innermost-bracket.ensures words read) in (
       c.place_at-at.result,
       (
-        (c.place_at-at.ensures.within, c.place_at-at.ensures.place),
+        c.place_at-at.ensures.found,
         λ seen stands. (
           None,
           (
