@@ -156,6 +156,18 @@ means over flash At m fetch p i a (Number rd v) s t h g l (Small k f) =
 means over flash At m fetch p i a (Number rd v) s t h g l (Large k f) = rw k (loads_word over flash At m fetch a rd v (p.behind i) s t h f)
 means over flash At m fetch p i a (Address rd w) s t h g l f = loads_word over flash At m fetch a rd (p.word_of w) (p.behind i) s t h f
 
+-- where that is a plain piece, its instruction is found at the last step
+means_finds : {S : Type 0} (over : Executor S) (flash : List ℕ) (At : ℕ → S → Type 0) (m : Reads over flash At) (fetch : ℕ → Fetched) (p : Places) (i a : ℕ) (x : Piece)
+    (s : Registers) (t : S) (h : At s.sp t) (g : (y : Instr) → x ≡ Plain y → IgnoresPc y) (l : 0 < cost x) (f : PieceAt fetch flash p i a x) → (y : Instr) → x ≡ Plain y
+    → fetch ((means over flash At m fetch p i a x s t h g l f).2).pc ≡ Found y (p.behind i)
+unfolding means direct
+means_finds over flash At m fetch p i a (Plain x) s t h g l f y e = f ∙ (let same : x ≡ y = cc in ap (λ z. Found z (p.behind i)) same)
+means_finds over flash At m fetch p i a (Label k) s t h g l f y e = cc
+means_finds over flash At m fetch p i a (Go c k) s t h g l f y e = cc
+means_finds over flash At m fetch p i a (CallTo k) s t h g l f y e = cc
+means_finds over flash At m fetch p i a (Number rd v) s t h g l f y e = cc
+means_finds over flash At m fetch p i a (Address rd w) s t h g l f y e = cc
+
 -- A piece that is held means its effect.
 pub laid_means : {S : Type 0} (over : Executor S) (flash : List ℕ) (At : ℕ → S → Type 0) → Reads over flash At → (fetch : ℕ → Fetched) (p : Places) (xs : List Piece) → Holds fetch flash p xs
     → (i : ℕ) (x : Piece) → slice_get xs i ≡ Some x → ((y : Instr) → x ≡ Plain y → IgnoresPc y) → 0 < cost x → (s : Registers) (t : S) → s.pc ≡ p.at i → At s.sp t → Means over fetch p i x s t
@@ -163,7 +175,14 @@ laid_means over flash At m fetch p xs h i x e g l s t f a =
     let d = h.each i x e in
     let n = entered over flash At m fetch (p.at i) d.0 s t a f d.1 in
     let q = means over flash At m fetch p i d.0 x s t a g l d.2 in
-    record { before = n.0 + q.0; few = omega arith; last = q.2; silent = silent_add over fetch n.0 q.0 s t (record s { pc = d.0 }) t q.2 t n.2 q.3; does = q.4 }
+    record {
+      before = n.0 + q.0;
+      few = omega arith;
+      last = q.2;
+      silent = silent_add over fetch n.0 q.0 s t (record s { pc = d.0 }) t q.2 t n.2 q.3;
+      does = q.4;
+      finds = means_finds over flash At m fetch p i d.0 x s t a g l d.2;
+    }
 
 -- nothing, and one after another
 pub reaches_none : {S : Type 0} (over : Executor S) (fetch : ℕ → Fetched) (s : Registers) (t : S) → ComesSilently over fetch 0 0 s t s t

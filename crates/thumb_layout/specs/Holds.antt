@@ -103,7 +103,8 @@ abbrev pub Silent : {S : Type 0} → Executor S → (ℕ → Fetched) → ℕ �
 Silent over fetch n s t s' t' = runs over fetch n s t ≡ Still s' t'
 
 -- A piece means its effect: from its place the machine comes, in fewer instructions than it costs, all of them silent and without a
--- change of memory, to one whose step is that effect.
+-- change of memory, to one whose step is that effect. A plain piece's own instruction is found there, and what follows
+-- that one is what is after the piece, though a branch over a pool may come before it.
 pub record Means {S : Type 0} (over : Executor S) (fetch : ℕ → Fetched) (p : Places) (i : ℕ) (x : Piece) (s : Registers)
     (t : S) : Type 0 where
   pub before : ℕ
@@ -111,3 +112,4 @@ pub record Means {S : Type 0} (over : Executor S) (fetch : ℕ → Fetched) (p :
   pub last : Registers
   pub silent : Silent over fetch before s t last t
   pub does : ran (over last t) last (fetch last.pc) ≡ stepped_at last.pc (over s t (piece_effect p i s x))
+  pub finds : (y : Instr) → x ≡ Plain y → fetch last.pc ≡ Found y (p.behind i)
