@@ -11,7 +11,7 @@ use Rattle.board_world.specs.declared.events.Listener.{Listener}
 use Rattle.board_world.specs.Rules.{queues_if_busy}
 use Rattle.board_world.specs.Transcript.{decimal_text}
 use Rattle.board_world.specs.Kinds.{Question, Turn, Goes, Takes, Pauses, Waits, Spawns, Listens, RaisesNow, Ends, Faults, Writes, Raises, Plots, Displays, Sets, Sends, Time, Value, Pressed}
-use Rattle.board_world.specs.Simulation.{Ties, ties, Going, Matches, Follows, Simulation, one, always}
+use Rattle.board_world.specs.Simulation.{Ties, ties, anywhere, Going, Matches, Follows, Simulation, one, always}
 use Rattle.bank_model.specs.Bank.{Bank, bank_move, bank_memory}
 use Rattle.bank_model.specs.Fibers.{Fiber, Shared, begins, begins_on, begins_again, begins_above}
 use Rattle.bank_model.specs.Texts.{is_text, text_at, glyph_at}
@@ -36,7 +36,7 @@ pub record FreeApart (used : ℕ) (s t : Shared) : Type 0 where
   pub count : s.used ≡ used
 
 abbrev pub apart : Ties Fiber Shared Fiber Shared
-apart = ties FreeApart (λ s t a c. (a ≡ c) × Good a) (λ f g. f ≡ g)
+apart = ties FreeApart (λ s t a c. (a ≡ c) × Good a) (λ f g. f ≡ g) anywhere
 
 begun_good : (flash : List ℕ) (base code : ℕ) → Good (begins_on flash base code)
 begun_good flash base code = record {
@@ -190,6 +190,7 @@ module _ (flash : List ℕ) where
         path = (refl, refl, refl);
         light = omega arith;
         match = watched_twins s (record s { free = sh.other }) a s sh.other act.1 (goes_steady (memory_of flash a s).0 a.registers (fetched flash a.base a.registers.pc)) refl;
+        stands = λ m. tt;
       })))
 
   pub free_simulation : Simulation (watched flash) (watched flash) apart one (always 1)

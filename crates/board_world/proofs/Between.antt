@@ -6,6 +6,7 @@ use Rattle.board_world.specs.Panics.{arena_panic, seat_panic, listener_panic}
 use Rattle.board_world.specs.Observations.{Panicked}
 use Rattle.board_world.specs.Board.{Board, over}
 use Rattle.board_world.specs.Kinds.{Kind, Turn, Goes, Asks, Takes, Pauses, Waits, Spawns, Listens, RaisesNow, Ends, Panics, Faults, answer}
+use Rattle.board_world.specs.Panicking.{MayPanic, HasPanicked, FirstsAre}
 use Rattle.board_world.specs.Activities.{Activity, World}
 use Rattle.board_world.specs.World.{idled, idle_bound, goes_on, stops, acted, stepped, tick}
 use Rattle.board_world.specs.Runs.{run}
@@ -14,6 +15,7 @@ use Rattle.board_world.specs.Trailing.{Comes, Completes, Trails}
 use Rattle.board_world.proofs.Trailing.{TrailingSimulation}
 use Rattle.board_world.proofs.Stays.{over_stays, busy_stays}
 use Rattle.board_world.proofs.Pairs.{paired_weaken}
+use Rattle.board_world.proofs.Panicking.{going_calm, panics_here, tick_is}
 use Rattle.board_world.proofs.Compose.{Way, way_on}
 use Rattle.board_world.proofs.Lift.{at_board, by_board, acted_alike, idled_alike}
 
@@ -61,8 +63,9 @@ module _ {A S C D : Type 0} (K : Kind A S) (L : Kind C D) (bound : ℕ) (positiv
   -- it is on its way
   goes_heads : (d : ℕ) (w : World A S) (v : World C D) (began : D) (x : Activity A) (xs : List (Activity A)) (y : Activity C) (ys : List (Activity C)) → w.board ≡ v.board → Rest T w.shared began w v
       → (room : ℕ) → d + room ≤ bound → (n cost : ℕ) (last : C) (memory : D) → Path L one (suc n) cost y.self v.shared last memory → cost + 1 ≤ room → (turn : Turn C D) → Completes L one r w.board.used (L.step last memory) turn → Matches K L T w.board.used w.shared began (K.step x.self w.shared) turn
+      → (MayPanic (K.step x.self w.shared) → T.Placed x.self last)
       → Kept x y → Paired (Same T w.shared began) xs ys → Between (suc d) (record w { ready = x ∷ xs }) (stepped L (y ∷ ys) v)
-  goes_heads d w v began x xs y ys e rest room fits n cost last memory path light turn completes match kept tail =
+  goes_heads d w v began x xs y ys e rest room fits n cost last memory path light turn completes match stands kept tail =
       (let b : C = path.0 in
       let t : D = path.1 in
       let more : ℕ = path.2 in
@@ -83,7 +86,7 @@ module _ {A S C D : Type 0} (K : Kind A S) (L : Kind C D) (bound : ℕ) (positiv
             tail,
             more + 1,
             small',
-            record { steps = n; cost = more; last = last; memory = memory; path = path.5; light = omega arith; turn = turn; completes = completes; match = match },
+            record { steps = n; cost = more; last = last; memory = memory; path = path.5; light = omega arith; turn = turn; completes = completes; match = match; stands = stands },
           );
         };
       } in
@@ -116,7 +119,18 @@ module _ {A S C D : Type 0} (K : Kind A S) (L : Kind C D) (bound : ℕ) (positiv
             p.1,
             c.cost + f.room,
             fits',
-            record { steps = way.0; cost = c.cost + g.cost; last = g.last; memory = g.memory; path = way.1; light = light'; turn = g.turn; completes = g.completes; match = g.match },
+            record {
+              steps = way.0;
+              cost = c.cost + g.cost;
+              last = g.last;
+              memory = g.memory;
+              path = way.1;
+              light = light';
+              turn = g.turn;
+              completes = g.completes;
+              match = g.match;
+              stands = g.stands;
+            },
           );
         };
       } in
@@ -197,13 +211,51 @@ module _ {A S C D : Type 0} (K : Kind A S) (L : Kind C D) (bound : ℕ) (positiv
           (rw (p.0, p.1) heads.4.completes) heads.4.match heads.0 heads.1
           (heads.0, paired_weaken (Same T w.shared began) (Kept) (λ i j k. k.kept) xs ys heads.1))
       by_path (suc n) p =
-          inl (goes_heads d (record w { ready = x ∷ xs }) (record v { ready = y ∷ ys }) began x xs y ys e rest' heads.2 heads.3 n heads.4.cost heads.4.last heads.4.memory p heads.4.light heads.4.turn heads.4.completes heads.4.match heads.0 heads.1)
+          inl (goes_heads d (record w { ready = x ∷ xs }) (record v { ready = y ∷ ys }) began x xs y ys e rest' heads.2 heads.3 n heads.4.cost heads.4.last heads.4.memory p heads.4.light heads.4.turn heads.4.completes heads.4.match heads.4.stands heads.0 heads.1)
 
   next_between : (d : ℕ) (w : World A S) (v : World C D) → over w.board ≡ false → Between d w v → Next d w (tick K w) (tick L v)
   next_between d w v o h =
       (let m = h.midway o in
       let o' : over v.board ≡ false = sym (ap over h.board) ∙ o in
       rw (o, o') (step_heads d w v m.began w.ready v.ready h.board m.rest m.heads))
+
+  -- where the run has ended by a panic, those who panicked are at places that belong together
+  abbrev pub Stood : World A S → World C D → Type 0
+  Stood w v = HasPanicked v.board.end → FirstsAre T.Placed w.ready v.ready
+
+  pub goes_stood : (w : World A S) (v : World C D) → over v.board ≡ false → Stood w v
+  goes_stood w v o p = absurd (going_calm L v o p)
+
+  -- the step by which both end
+  stepped_stood : (d : ℕ) (began : D) (w : World A S) (v : World C D) (xs : List (Activity A)) (ys : List (Activity C)) → w.ready ≡ xs → v.ready ≡ ys → over w.board ≡ false → over v.board ≡ false
+      → Heads d w.board.used w.shared began v.shared xs ys → (stepped K xs w).board ≡ (stepped L ys v).board → Stood (stepped K xs w) (stepped L ys v)
+  stepped_stood d began w v [] [] e f o o' heads same p = absurd (going_calm L v o' p)
+  stepped_stood d began w v [] (y ∷ ys) e f o o' heads same p = absurd heads
+  stepped_stood d began w v (x ∷ xs) [] e f o o' heads same p = absurd heads
+  stepped_stood d began w v (x ∷ xs) (y ∷ ys) e f o o' heads same p =
+      subst (λ (zs : List (Activity A)). FirstsAre T.Placed zs (stepped L (y ∷ ys) v).ready) (sym (ap (λ (z : World A S). z.ready) upper.2 ∙ e))
+      (subst (λ (zs : List (Activity C)). FirstsAre T.Placed (x ∷ xs) zs) (sym (ap (λ (z : World C D). z.ready) lower.2 ∙ f)) (placed heads.4.steps heads.4.path))
+    where
+      upper : MayPanic (K.step x.self w.shared) × (code : ℕ) × (stepped K (x ∷ xs) w ≡ stops (Panicked code) w)
+      upper = panics_here K (x ∷ xs) w o (subst (λ (b : Board). HasPanicked b.end) (sym same) p)
+
+      lower : MayPanic (L.step y.self v.shared) × (code : ℕ) × (stepped L (y ∷ ys) v ≡ stops (Panicked code) v)
+      lower = panics_here L (y ∷ ys) v o' p
+
+      placed : (n : ℕ) → Path L one n heads.4.cost y.self v.shared heads.4.last heads.4.memory → T.Placed x.self y.self
+      placed zero q = subst (λ (c : C). T.Placed x.self c) (sym q.0) (heads.4.stands upper.0)
+      placed (suc n) q = absurd (subst MayPanic q.3 lower.0)
+
+  tick_stood : (d : ℕ) (w : World A S) (v : World C D) → over w.board ≡ false → Between d w v → (tick K w).board ≡ (tick L v).board → Stood (tick K w) (tick L v)
+  tick_stood d w v o h e p =
+      (let o' : over v.board ≡ false = sym (ap over h.board) ∙ o in
+      let s = tick_is K w o in
+      let t = tick_is L v o' in
+      let m = h.midway o in
+      let same : (stepped K w.ready w).board ≡ (stepped L v.ready v).board = ap (λ (z : World A S). z.board) (sym s) ∙ e ∙ ap (λ (z : World C D). z.board) t in
+      subst (λ (z : World A S). FirstsAre T.Placed z.ready (tick L v).ready) (sym s)
+      (subst (λ (z : World C D). FirstsAre T.Placed (stepped K w.ready w).ready z.ready) (sym t)
+      (stepped_stood d m.began w v w.ready v.ready refl refl o o' m.heads same (subst (λ (z : World C D). HasPanicked z.board.end) t p))))
 
   -- from e steps past it, a run of the lower world for m steps is with a run of the upper one for k steps
   pub record Along (m e : ℕ) (w : World A S) (v : World C D) : Type 0 where
@@ -212,9 +264,10 @@ module _ {A S C D : Type 0} (K : Kind A S) (L : Kind C D) (bound : ℕ) (positiv
     pub at_most : k ≤ m
     pub between : Between d (run K k w) (run L m v)
     pub counted : over (run K k w).board ≡ false → m + e ≤ bound * k + d
+    pub stood : Stood w v → Stood (run K k w) (run L m v)
 
   pub along : (m e : ℕ) (w : World A S) (v : World C D) → Between e w v → Along m e w v
-  along zero e w v h = record { k = 0; d = e; at_most = omega arith; between = h; counted = λ _. omega arith }
+  along zero e w v h = record { k = 0; d = e; at_most = omega arith; between = h; counted = λ _. omega arith; stood = λ s. s }
   along (suc m) e w v h = (let a = along m e w v h in more a (over (run K a.k w).board) refl)
     where
       more : (a : Along m e w v) (c : Bool) → over (run K a.k w).board ≡ c → Along (suc m) e w v
@@ -226,14 +279,29 @@ module _ {A S C D : Type 0} (K : Kind A S) (L : Kind C D) (bound : ℕ) (positiv
             at_most = (let h : a.k ≤ m = a.at_most in omega arith);
             between = rw o' a.between;
             counted = λ o''. cc;
+            stood = rw o' a.stood;
           })
       more a false o =
           (let near : a.d < bound = (a.between.midway o).near in
           let so_far : m + e ≤ bound * a.k + a.d = a.counted o in
           let fewer : a.k ≤ m = a.at_most in
           elim (next_between a.d (run K a.k w) (run L m v) o a.between) [
-            | inl b ↦ record { k = a.k; d = suc a.d; at_most = omega arith; between = b; counted = λ _. omega arith }
-            | inr b ↦ record { k = suc a.k; d = 0; at_most = omega arith; between = b; counted = λ _. omega arith }
+            | inl b ↦ record {
+              k = a.k;
+              d = suc a.d;
+              at_most = omega arith;
+              between = b;
+              counted = λ _. omega arith;
+              stood = λ _. goes_stood (run K a.k w) (tick L (run L m v)) (sym (ap over b.board) ∙ o);
+            }
+            | inr b ↦ record {
+              k = suc a.k;
+              d = 0;
+              at_most = omega arith;
+              between = b;
+              counted = λ _. omega arith;
+              stood = λ _. tick_stood a.d (run K a.k w) (run L m v) o a.between b.board;
+            }
           ])
 
   -- from worlds that are alike, the lower run is the upper one with fewer steps, and not much fewer

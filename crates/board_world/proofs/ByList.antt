@@ -35,7 +35,7 @@ rises_from n [] k h = tt
 rises_from n (a ∷ rest) k h = (h.0, rises_from a.count rest k h.1)
 
 -- no act ends a run
-end_raised : (e : Event) (b : Board) → (raised e b).end ≡ b.end
+pub end_raised : (e : Event) (b : Board) → (raised e b).end ≡ b.end
 end_raised e b = if_keeps (λ (x : Board). x.end ≡ b.end) (nat_lt (length b.queue) 32) _ _ refl refl
 
 end_down : (k : ℕ) (o : Option ℕ) (b : Board) → (went_down k o b).end ≡ b.end
@@ -46,7 +46,7 @@ end_up : (k : ℕ) (o : Option ℕ) (b : Board) → (went_up k o b).end ≡ b.en
 end_up k None b = refl
 end_up k (Some t) b = end_raised _ (raised _ b) ∙ end_raised _ b
 
-end_arrive : (a : Act) (b : Board) → (arrive a b).end ≡ b.end
+pub end_arrive : (a : Act) (b : Board) → (arrive a b).end ≡ b.end
 end_arrive (Down n) b = if_keeps (λ (x : Board). x.end ≡ b.end) (n == 1) _ _ (end_down 1 b.a_since b) (end_down 2 b.b_since b)
 end_arrive (Up n) b = if_keeps (λ (x : Board). x.end ≡ b.end) (n == 1) _ _ (end_up 1 b.a_since b) (end_up 2 b.b_since b)
 end_arrive (Raise e) b = end_raised e b
@@ -62,10 +62,10 @@ module _ {A S : Type 0} where
   acts_at_over n (a ∷ rest) w e =
       ap (acts_at n rest) (if_keeps (λ v. v ≡ w) (a.count == n) (acts a.act w) w (acts_over a.act w e) refl) ∙ acts_at_over n rest w e
 
-  over_acts : (a : Act) (w : World A S) → over (acts a w).board ≡ over w.board
+  pub over_acts : (a : Act) (w : World A S) → over (acts a w).board ≡ over w.board
   over_acts a w = if_keeps (λ (v : World A S). over v.board ≡ over w.board) (over w.board) w (record w { board = arrive a w.board }) refl (ap is_some (end_arrive a w.board))
 
-  over_acts_at : (n : ℕ) (rest : List Arrival) (w : World A S) → over (acts_at n rest w).board ≡ over w.board
+  pub over_acts_at : (n : ℕ) (rest : List Arrival) (w : World A S) → over (acts_at n rest w).board ≡ over w.board
   over_acts_at n [] w = refl
   over_acts_at n (a ∷ rest) w =
       over_acts_at n rest (if a.count == n then acts a.act w else w)
@@ -167,7 +167,7 @@ module _ {A S : Type 0} (K : Kind A S) where
   with_nothing (suc m) w = ap (tick K) (with_nothing m w)
 
   -- a run that has ended stays so
-  with_over : (m : ℕ) (rest : List Arrival) (w : World A S) → over (run_with K rest m w).board ≡ true → run_with K rest (suc m) w ≡ run_with K rest m w
+  pub with_over : (m : ℕ) (rest : List Arrival) (w : World A S) → over (run_with K rest m w).board ≡ true → run_with K rest (suc m) w ≡ run_with K rest m w
   with_over m rest w e =
       (let stays : tick K (run_with K rest m w) ≡ run_with K rest m w = run_over K 1 (run_with K rest m w) e in
       ap (acts_at (suc m) rest) stays ∙ acts_at_over (suc m) rest (run_with K rest m w) e)

@@ -4,6 +4,7 @@ use Rattle.board_world.specs.declared.events.Event.{Event}
 use Rattle.board_world.specs.declared.events.Listener.{Listener}
 use Rattle.board_world.specs.Limits.{arena_limit}
 use Rattle.board_world.specs.Kinds.{Kind, Turn, Goes, Asks, Takes, Pauses, Waits, Spawns, Listens, RaisesNow, Ends, Panics, Faults, Question}
+use Rattle.board_world.specs.Panicking.{MayPanic}
 use Rattle.board_world.specs.Simulation.{Ties, Onward, Going, Listening, Begins, Matches, Path, Follows, Simulation}
 use Rattle.board_world.specs.Composed.{seen, joined_seen}
 use Rattle.board_world.specs.Sound.{NoFault, PartialSimulation}
@@ -46,12 +47,29 @@ no_fault_below K L T used s t (Panics c) (Panics d) h p = tt
 no_fault_below K L T used s t (Faults c x) y h p = absurd p
 no_fault_below K L T used s t _ _ h p = absurd h
 
-module _ {A B C S R D : Type 0} (K : Kind A S) (L : Kind B R) (M : Kind C D) (down : S → R) (Fine : ℕ → S → Type 0) (Act : S → A → B → Type 0) (Code : ℕ → ℕ → Type 0) (U : Ties B R C D) where
+-- what may panic is matched by what may
+pub may_panic_below : {A S C D : Type 0} (K : Kind A S) (L : Kind C D) (T : Ties A S C D) (used : ℕ) (s : S) (t : D) (x : Turn A S) (y : Turn C D)
+    → Matches K L T used s t x y → MayPanic x → MayPanic y
+may_panic_below K L T used s t (Goes a s') y h p = absurd p
+may_panic_below K L T used s t (Asks q f) y h p = absurd p
+may_panic_below K L T used s t (Ends f s') y h p = absurd p
+may_panic_below K L T used s t (Faults c a) y h p = absurd p
+may_panic_below K L T used s t (Takes n f) (Takes m g) h p = tt
+may_panic_below K L T used s t (Pauses n a s') (Pauses m b t') h p = tt
+may_panic_below K L T used s t (Waits n a s') (Waits m b t') h p = tt
+may_panic_below K L T used s t (Spawns f a s') (Spawns g b t') h p = tt
+may_panic_below K L T used s t (Listens l a s') (Listens m b t') h p = tt
+may_panic_below K L T used s t (RaisesNow e f a s') (RaisesNow d g b t') h p = tt
+may_panic_below K L T used s t (Panics c) (Panics d) h p = tt
+may_panic_below K L T used s t _ _ h p = absurd h
+
+module _ {A B C S R D : Type 0} (K : Kind A S) (L : Kind B R) (M : Kind C D) (down : S → R) (Fine : ℕ → S → Type 0) (Act : S → A → B → Type 0) (Code : ℕ → ℕ → Type 0)
+    (At : A → B → Type 0) (U : Ties B R C D) where
   abbrev T : Ties A S B R
-  T = seen down Fine Act Code
+  T = seen down Fine Act Code At
 
   abbrev tied : Ties A S C D
-  tied = joined_seen down Fine Act Code U
+  tied = joined_seen down Fine Act Code At U
 
   -- from s to s' for the two upper ones, and from t to u' for the lower one, t having been reached from s
   pub onward_on : (used used' : ℕ) (s s' : S) (t t' : R) (u u' v : D) → Onward T used s s' (down s) t' → Onward U used' (down s) t u v → Onward U used t t' v u' → Onward tied used s s' u u'
@@ -206,6 +224,7 @@ module _ {A B C S R D : Type 0} (K : Kind A S) (L : Kind B R) (M : Kind C D) (do
           path = way.1;
           light = omega arith;
           match = matches_on used s f.memory u r.memory r.onward (K.step a s) (L.step f.last f.memory) (M.step g.last g.memory) f.match g.match;
+          stands = λ m. (f.last, f.stands m, g.stands (may_panic_below K L T used s (down s) (K.step a s) (L.step f.last f.memory) f.match m));
         })
 
   pub begins_joined : (used : ℕ) (s : S) (u : D) (f h : ℕ)

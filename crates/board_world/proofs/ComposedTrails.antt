@@ -6,7 +6,7 @@ use Rattle.board_world.specs.Composed.{seen, joined_seen}
 use Rattle.board_world.specs.Sound.{NoFault, PartialSimulation}
 use Rattle.board_world.specs.Trailing.{Comes, Completes, TrailsWithin, PartialTrailingSimulation}
 use Rattle.board_world.proofs.Trailing.{TrailingSimulation}
-use Rattle.board_world.proofs.Compose.{Way, way_on, way_step, no_fault_below, goes_matched, onward_trans, matches_on, begins_joined}
+use Rattle.board_world.proofs.Compose.{Way, way_on, way_step, no_fault_below, may_panic_below, goes_matched, onward_trans, matches_on, begins_joined}
 
 module _ {C D : Type 0} (L : Kind C D) (weight : C → D → ℕ) (r : ℕ) where
   -- where nothing is left to do
@@ -46,7 +46,18 @@ module _ {A S C D : Type 0} (K : Kind A S) (L : Kind C D) (T : Ties A S C D) (we
       record {
         room = bound;
         fits = omega arith;
-        trails = record { steps = f.steps; cost = f.cost; last = f.last; memory = f.memory; path = f.path; light = f.light; turn = L.step f.last f.memory; completes = is_complete L weight 0 used (L.step f.last f.memory); match = f.match };
+        trails = record {
+          steps = f.steps;
+          cost = f.cost;
+          last = f.last;
+          memory = f.memory;
+          path = f.path;
+          light = f.light;
+          turn = L.step f.last f.memory;
+          completes = is_complete L weight 0 used (L.step f.last f.memory);
+          match = f.match;
+          stands = f.stands;
+        };
       }
 
   -- a simulation trails by nothing
@@ -57,13 +68,14 @@ module _ {A S C D : Type 0} (K : Kind A S) (L : Kind C D) (T : Ties A S C D) (we
   partial_trails_by_nothing bound sim = record { begins = sim.begins; follows = λ used s t a b h k n. follows_trail (bound a s) used s t a b (sim.follows used s t a b h k n) }
 
 -- one behind the other: the upper one owes nothing behind its turns, the lower one trails
-module _ {A B C S R D : Type 0} (K : Kind A S) (L : Kind B R) (M : Kind C D) (down : S → R) (Fine : ℕ → S → Type 0) (Act : S → A → B → Type 0) (Code : ℕ → ℕ → Type 0) (U : Ties B R C D)
+module _ {A B C S R D : Type 0} (K : Kind A S) (L : Kind B R) (M : Kind C D) (down : S → R) (Fine : ℕ → S → Type 0) (Act : S → A → B → Type 0) (Code : ℕ → ℕ → Type 0)
+    (At : A → B → Type 0) (U : Ties B R C D)
     (weight : B → R → ℕ) (weight' : C → D → ℕ) (r : ℕ) (bound : A → S → ℕ) where
   abbrev T : Ties A S B R
-  T = seen down Fine Act Code
+  T = seen down Fine Act Code At
 
   abbrev tied : Ties A S C D
-  tied = joined_seen down Fine Act Code U
+  tied = joined_seen down Fine Act Code At U
 
   module _ (upper : PartialSimulation K L T weight bound) (lower : PartialTrailingSimulation L M U weight' r weight) where
     -- along a path of the middle one the lower one follows
@@ -90,7 +102,7 @@ module _ {A B C S R D : Type 0} (K : Kind A S) (L : Kind B R) (M : Kind C D) (do
     walk (suc n) used s u b c cost b' t h k p =
         (let x = lower.follows used s u b c h k (subst NoFault (sym p.3) tt) in
         let f = x.trails in
-        let g = goes_matched K L M down Fine Act Code U used s u p.0 p.1 f.turn (subst (λ (y : Turn B R). Matches L M U used s u y f.turn) p.3 f.match) in
+        let g = goes_matched K L M down Fine Act Code At U used s u p.0 p.1 f.turn (subst (λ (y : Turn B R). Matches L M U used s u y f.turn) p.3 f.match) in
         let z = goes_completed M weight' r used (M.step f.last f.memory) g.0 g.1 (subst (λ (y : Turn C D). Completes M weight' r used (M.step f.last f.memory) y) g.2 f.completes) in
         let e = z.3 in
         let w : Walked used p.1 t g.1 b' g.0 p.2 = walk n used p.1 g.1 p.0 g.0 p.2 b' t g.3.onward.shared g.3.self p.5 in
@@ -108,7 +120,7 @@ module _ {A B C S R D : Type 0} (K : Kind A S) (L : Kind B R) (M : Kind C D) (do
           cheap = omega arith;
           way = way_on M weight' first.0 ((f.cost + weight' f.last f.memory) + e.cost) w.spent c u g.0 g.1 w.at w.memory first.1 w.way;
           active = w.active;
-          onward = onward_trans K L M down Fine Act Code U used s p.1 t u g.1 w.memory g.3.onward w.onward;
+          onward = onward_trans K L M down Fine Act Code At U used s p.1 t u g.1 w.memory g.3.onward w.onward;
         })
 
     joined_trails : (used : ℕ) (s : S) (u : D) (a : A) (c : C) → tied.Shared used s u → tied.Active s u a c → NoFault (K.step a s) → TrailsWithin K M tied weight' r (bound a s) used s u a c
@@ -134,13 +146,14 @@ module _ {A B C S R D : Type 0} (K : Kind A S) (L : Kind B R) (M : Kind C D) (do
             light = omega arith;
             turn = g.turn;
             completes = g.completes;
-            match = matches_on K L M down Fine Act Code U used s f.memory u w.memory w.onward (K.step a s) (L.step f.last f.memory) g.turn f.match g.match;
+            match = matches_on K L M down Fine Act Code At U used s f.memory u w.memory w.onward (K.step a s) (L.step f.last f.memory) g.turn f.match g.match;
+            stands = λ m. (f.last, f.stands m, g.stands (may_panic_below K L T used s (down s) (K.step a s) (L.step f.last f.memory) f.match m));
           };
         })
 
     pub partial_trailing_compose : PartialTrailingSimulation K M tied weight' r bound
     partial_trailing_compose =
         record {
-          begins = λ used s u f h x y. begins_joined K L M down Fine Act Code U used s u f h (λ g. upper.begins used s (down s) f g) (λ g. lower.begins used (down s) u g h) x y;
+          begins = λ used s u f h x y. begins_joined K L M down Fine Act Code At U used s u f h (λ g. upper.begins used s (down s) f g) (λ g. lower.begins used (down s) u g h) x y;
           follows = joined_trails;
         }

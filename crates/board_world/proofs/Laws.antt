@@ -29,5 +29,9 @@ pub use Rattle.board_world.proofs.Compose.{compose, partial_compose}
 pub use Rattle.board_world.proofs.Boards.{kept_run, kept_arrive, ends_soundly, extends_run, extends_arrive}
 -- typed activities make no fault, and there a simulation that owes nothing at faults is a whole one
 pub use Rattle.board_world.proofs.Sound.{holds, loosened, partial_loosened, starts, never_faults, sound_below, implements, trailing_implements}
+-- a panic changes nothing but the end, and below a run it is at a place that belongs to the one above
+pub use Rattle.board_world.proofs.Panicking.{run_panics}
+pub use Rattle.board_world.proofs.Arrive.{trailing_stands_with}
+pub use Rattle.board_world.proofs.Sound.{trailing_sound_panics}
 -- simulations that trail behind a turn
 pub use Rattle.board_world.proofs.ComposedTrails.{is_complete, partial_trails_by_nothing, partial_trailing_compose}

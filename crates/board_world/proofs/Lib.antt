@@ -6,8 +6,9 @@ mod Lift
 mod Compose
 mod Trailing
 mod ComposedTrails
-mod Between
 mod ByList
+mod Panicking
+mod Between
 mod Late
 mod Arrive
 mod Settle

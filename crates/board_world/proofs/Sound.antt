@@ -13,11 +13,13 @@ use Rattle.board_world.specs.Simulation.{Ties, Onward, Going, Listening, Begins,
 use Rattle.board_world.specs.Composed.{level}
 use Rattle.board_world.specs.Implements.{EndsByNoFault, Implements, boards_from}
 use Rattle.board_world.specs.Trailing.{PartialTrailingSimulation}
+use Rattle.board_world.specs.Standing.{PanicsTogether, worlds_from}
 use Rattle.board_world.proofs.Trailing.{TrailingSimulation}
 use Rattle.board_world.proofs.ComposedTrails.{partial_trails_by_nothing}
 use Rattle.board_world.proofs.Stays.{if_keeps}
 use Rattle.board_world.proofs.Boards.{kept_run, kept_arrive, sound_closed}
-use Rattle.board_world.proofs.Arrive.{lifts_with, trailing_lifts_with}
+use Rattle.board_world.proofs.Between.{goes_stood}
+use Rattle.board_world.proofs.Arrive.{lifts_with, trailing_lifts_with, trailing_stands_with}
 use Rattle.board_world.proofs.ByList.{rises_from}
 
 -- ties between typed states
@@ -27,6 +29,7 @@ within I T =
       Shared = λ used s t. I.Shared used s × T.Shared used s t;
       Active = λ s t a c. I.Active s a × T.Active s t a c;
       Code = λ f g. I.Code f × T.Code f g;
+      Placed = T.Placed;
     }
 
 pub stays_runs : {A S : Type 0} (I : Typing A S) (used : ℕ) (s : S) (u : Turn A S) → Stays I used s u → NoFault u
@@ -80,7 +83,16 @@ module _ {A S C D : Type 0} (K : Kind A S) (L : Kind C D) (I : Typing A S) (T : 
         follows = λ used s t a c h k.
             (let stays = sound.steps used s a h.0 k.0 in
             let f = sim.follows used s t a c h.1 k.1 (stays_runs I used s (K.step a s) stays) in
-            record { steps = f.steps; cost = f.cost; last = f.last; memory = f.memory; path = f.path; light = f.light; match = matches_within used s t (K.step a s) (L.step f.last f.memory) stays f.match });
+            record {
+              steps = f.steps;
+              cost = f.cost;
+              last = f.last;
+              memory = f.memory;
+              path = f.path;
+              light = f.light;
+              match = matches_within used s t (K.step a s) (L.step f.last f.memory) stays f.match;
+              stands = f.stands;
+            });
       }
 
   -- so is one that trails
@@ -95,7 +107,18 @@ module _ {A S C D : Type 0} (K : Kind A S) (L : Kind C D) (I : Typing A S) (T : 
             record {
               room = x.room;
               fits = x.fits;
-              trails = record { steps = f.steps; cost = f.cost; last = f.last; memory = f.memory; path = f.path; light = f.light; turn = f.turn; completes = f.completes; match = matches_within used s t (K.step a s) f.turn stays f.match };
+              trails = record {
+                steps = f.steps;
+                cost = f.cost;
+                last = f.last;
+                memory = f.memory;
+                path = f.path;
+                light = f.light;
+                turn = f.turn;
+                completes = f.completes;
+                match = matches_within used s t (K.step a s) f.turn stays f.match;
+                stands = f.stands;
+              };
             });
       }
 
@@ -104,7 +127,7 @@ module _ {A S C D : Type 0} (K : Kind A S) (L : Kind C D) (T : Ties A S C D) (we
   looser : (less more : ℕ) → less ≤ more → (used : ℕ) (s : S) (t : D) (a : A) (c : C) → Follows K L T weight less used s t a c t → Follows K L T weight more used s t a c t
   looser less more h used s t a c f =
       (let light : f.cost + weight f.last f.memory ≤ less = f.light in
-      record { steps = f.steps; cost = f.cost; last = f.last; memory = f.memory; path = f.path; light = omega (arith, light, h); match = f.match })
+      record { steps = f.steps; cost = f.cost; last = f.last; memory = f.memory; path = f.path; light = omega (arith, light, h); match = f.match; stands = f.stands })
 
   pub loosened : ((used : ℕ) (s : S) (t : D) (a : A) (c : C) → T.Shared used s t → T.Active s t a c → bound a s ≤ greater a s) → Simulation K L T weight bound → Simulation K L T weight greater
   loosened h sim =
@@ -144,6 +167,17 @@ pub trailing_sound_lifts : {A S C D : Type 0} (K : Kind A S) (L : Kind C D) (r b
 trailing_sound_lifts K L r bound I T positive sound sim f g s t code tied shared alike until script arrivals rises m =
     (let whole = trailing_holds K L I T one r (always bound) sound sim in
     trailing_lifts_with K L bound positive (within I T) r whole _ _ (begun_alike K L (within I T) whole.begins f g s t until script (code, tied) (shared, alike)) arrivals rises m)
+
+-- and where the lower run ends by a panic, who panicked is at a place that belongs to that of who panicked above
+pub trailing_sound_panics : {A S C D : Type 0} (K : Kind A S) (L : Kind C D) (r bound : ℕ) (I : Typing A S) (T : Ties A S C D) → 0 < bound → Sound K I
+    → PartialTrailingSimulation K L T one r (always bound)
+    → (f g : ℕ) (s : S) (t : D) → I.Code f → T.Code f g → I.Shared 0 s → T.Shared 0 s t → PanicsTogether bound T.Placed (worlds_from K f s) (worlds_from L g t)
+trailing_sound_panics K L r bound I T positive sound sim f g s t code tied shared alike until script arrivals rises m p =
+    (let whole = trailing_holds K L I T one r (always bound) sound sim in
+    let w = start K f s until script in
+    let v = start L g t until script in
+    let h = trailing_stands_with K L bound positive (within I T) r whole w v (begun_alike K L (within I T) whole.begins f g s t until script (code, tied) (shared, alike)) arrivals rises m in
+    (h.0, h.1 (goes_stood K L bound positive (within I T) r whole w v refl) p))
 
 -- a kind that panics where another makes a fault
 abbrev calmed : {A S : Type 0} → Turn A S → Turn A S
@@ -222,7 +256,16 @@ module _ {A S : Type 0} (K : Kind A S) where
     calm_follows sound used s t a b h k =
         subst (λ (u : S). Follows (calm K) K itself one 1 used s u a b u) h.0
         (subst (λ (c : A). Follows (calm K) K itself one 1 used s s a c s) k.0
-        (record { steps = 0; cost = 0; last = a; memory = s; path = (refl, refl, refl); light = omega arith; match = matches_itself used s (K.step a s) (sound.steps used s a h.1 k.1) }))
+        (record {
+          steps = 0;
+          cost = 0;
+          last = a;
+          memory = s;
+          path = (refl, refl, refl);
+          light = omega arith;
+          match = matches_itself used s (K.step a s) (sound.steps used s a h.1 k.1);
+          stands = λ m. tt;
+        }))
 
     calm_simulation : Sound K I → Simulation (calm K) K itself one (always 1)
     calm_simulation sound =

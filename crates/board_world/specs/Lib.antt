@@ -10,6 +10,7 @@ pub mod Kinds
 pub mod Waiting
 pub mod Activities
 pub mod World
+pub mod Panicking
 pub mod Requests
 pub mod Before
 pub mod Simulation
@@ -18,3 +19,4 @@ pub mod Runs
 pub mod Implements
 pub mod Sound
 pub mod Trailing
+pub mod Standing

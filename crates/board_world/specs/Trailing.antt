@@ -2,6 +2,7 @@
 use Rattle.std.specs.Prelude.{◌≡◌, ℕ, ◌+◌, ◌≤◌, ℤ}
 use Rattle.board_world.specs.Limits.{arena_limit}
 use Rattle.board_world.specs.Kinds.{Kind, Turn, Goes, Asks, Takes, Spawns, Listens}
+use Rattle.board_world.specs.Panicking.{MayPanic}
 use Rattle.board_world.specs.Simulation.{Simulates, Ties, Path, Matches}
 use Rattle.board_world.specs.Sound.{NoFault}
 
@@ -36,6 +37,7 @@ module _ {A S C D : Type 0} (K : Kind A S) (L : Kind C D) (T : Ties A S C D) (we
     pub turn : Turn C D
     pub completes : Completes L weight r used (L.step last memory) turn
     pub match : Matches K L T used s t₀ (K.step a s) turn
+    pub stands : MayPanic (K.step a s) → T.Placed a last
 
   -- the same, where as much again may be owed from the turn before
   pub record TrailsWithin (bound : ℕ) (used : ℕ) (s : S) (t : D) (a : A) (b : C) : Type 0 where

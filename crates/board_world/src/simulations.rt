@@ -11,8 +11,10 @@ ghost use Rattle.board_world.specs.Composed.{seen, joined_seen};
 ghost use Rattle.board_world.specs.Implements.{EndsByNoFault, Implements, boards_from};
 ghost use Rattle.board_world.specs.Sound.{NoFault, PartialSimulation, Sound, typing};
 ghost use Rattle.board_world.specs.Trailing.{PartialTrailingSimulation};
+ghost use Rattle.board_world.specs.Standing.{PanicsTogether, worlds_from};
 
-/// What ties two kinds of activity: their own states, what they share, and the numbers of their functions.
+/// What ties two kinds of activity: their own states, what they share, the numbers of their functions, and the places
+/// at which they may panic.
 pub trait Tied {
     type Upper;
 
@@ -27,14 +29,16 @@ pub trait Tied {
     ghost active: { Self.UpperShared → Self.LowerShared → Self.Upper → Self.Lower → Type 0 };
 
     ghost code: { ℕ → ℕ → Type 0 };
+
+    ghost placed: { Self.Upper → Self.Lower → Type 0 };
 }
 
 /// A simulation between two kinds of activity is one between their worlds, whatever arrives between two steps.
 pub fn simulations_lift<T: Tied>()
     ensures { (K : Kind T.Upper T.UpperShared) (L : Kind T.Lower T.LowerShared) (bound : ℕ)
         (w : World T.Upper T.UpperShared) (v : World T.Lower T.LowerShared)
-        → 0 < bound → Simulation K L (ties T.shared T.active T.code) one (always bound)
-        → Alike (ties T.shared T.active T.code) w v
+        → 0 < bound → Simulation K L (ties T.shared T.active T.code T.placed) one (always bound)
+        → Alike (ties T.shared T.active T.code T.placed) w v
         → (arrivals : List Arrival) → Rises 0 arrivals → (m : ℕ)
         → Keeps bound (board_with K w) (board_with L v) arrivals m }
 {}
@@ -43,8 +47,8 @@ pub fn simulations_lift<T: Tied>()
 pub fn simulated_runs_end_in_time<T: Tied>()
     ensures { (K : Kind T.Upper T.UpperShared) (L : Kind T.Lower T.LowerShared) (bound : ℕ)
         (w : World T.Upper T.UpperShared) (v : World T.Lower T.LowerShared)
-        → 0 < bound → Simulation K L (ties T.shared T.active T.code) one (always bound)
-        → Alike (ties T.shared T.active T.code) w v
+        → 0 < bound → Simulation K L (ties T.shared T.active T.code T.placed) one (always bound)
+        → Alike (ties T.shared T.active T.code T.placed) w v
         → (s : ℕ) → over (run K s w).board ≡ true → over (run L (bound * s) v).board ≡ true }
 {}
 
@@ -77,11 +81,15 @@ pub trait Chained {
 
     ghost code: { ℕ → ℕ → Type 0 };
 
+    ghost placed: { Self.Upper → Self.Middle → Type 0 };
+
     ghost lower_shared: { ℕ → Self.MiddleShared → Self.LowerShared → Type 0 };
 
     ghost lower_active: { Self.MiddleShared → Self.LowerShared → Self.Middle → Self.Lower → Type 0 };
 
     ghost lower_code: { ℕ → ℕ → Type 0 };
+
+    ghost lower_placed: { Self.Middle → Self.Lower → Type 0 };
 }
 
 /// Two simulations behind one another are one, where the weight of the middle kind's steps is the bound of the lower simulation.
@@ -89,10 +97,10 @@ pub fn simulations_compose<T: Chained>()
     ensures { (K : Kind T.Upper T.Shared) (L : Kind T.Middle T.MiddleShared) (M : Kind T.Lower T.LowerShared)
         (bound : T.Upper → T.Shared → ℕ) (weight : T.Middle → T.MiddleShared → ℕ)
         (lower_weight : T.Lower → T.LowerShared → ℕ)
-        → Simulation K L (seen T.down T.fine T.active T.code) weight bound
-        → Simulation L M (ties T.lower_shared T.lower_active T.lower_code) lower_weight weight
-        → Simulation K M (joined_seen T.down T.fine T.active T.code (ties T.lower_shared T.lower_active T.lower_code))
-        lower_weight bound }
+        → Simulation K L (seen T.down T.fine T.active T.code T.placed) weight bound
+        → Simulation L M (ties T.lower_shared T.lower_active T.lower_code T.lower_placed) lower_weight weight
+        → Simulation K M (joined_seen T.down T.fine T.active T.code T.placed
+        (ties T.lower_shared T.lower_active T.lower_code T.lower_placed)) lower_weight bound }
 {}
 
 /// Simulations that owe nothing where the upper kind makes a fault compose in the same way.
@@ -100,10 +108,11 @@ pub fn partial_simulations_compose<T: Chained>()
     ensures { (K : Kind T.Upper T.Shared) (L : Kind T.Middle T.MiddleShared) (M : Kind T.Lower T.LowerShared)
         (bound : T.Upper → T.Shared → ℕ) (weight : T.Middle → T.MiddleShared → ℕ)
         (lower_weight : T.Lower → T.LowerShared → ℕ)
-        → PartialSimulation K L (seen T.down T.fine T.active T.code) weight bound
-        → PartialSimulation L M (ties T.lower_shared T.lower_active T.lower_code) lower_weight weight
-        → PartialSimulation K M (joined_seen T.down T.fine T.active T.code
-        (ties T.lower_shared T.lower_active T.lower_code)) lower_weight bound }
+        → PartialSimulation K L (seen T.down T.fine T.active T.code T.placed) weight bound
+        → PartialSimulation L M (ties T.lower_shared T.lower_active T.lower_code T.lower_placed)
+        lower_weight weight
+        → PartialSimulation K M (joined_seen T.down T.fine T.active T.code T.placed
+        (ties T.lower_shared T.lower_active T.lower_code T.lower_placed)) lower_weight bound }
 {}
 
 /// One whose lower activity may trail behind its turns stands behind one that doesn't.
@@ -111,10 +120,11 @@ pub fn trailing_simulations_compose<T: Chained>()
     ensures { (K : Kind T.Upper T.Shared) (L : Kind T.Middle T.MiddleShared) (M : Kind T.Lower T.LowerShared)
         (bound : T.Upper → T.Shared → ℕ) (weight : T.Middle → T.MiddleShared → ℕ)
         (lower_weight : T.Lower → T.LowerShared → ℕ) (r : ℕ)
-        → PartialSimulation K L (seen T.down T.fine T.active T.code) weight bound
-        → PartialTrailingSimulation L M (ties T.lower_shared T.lower_active T.lower_code) lower_weight r weight
-        → PartialTrailingSimulation K M (joined_seen T.down T.fine T.active T.code
-        (ties T.lower_shared T.lower_active T.lower_code)) lower_weight r bound }
+        → PartialSimulation K L (seen T.down T.fine T.active T.code T.placed) weight bound
+        → PartialTrailingSimulation L M (ties T.lower_shared T.lower_active T.lower_code T.lower_placed)
+        lower_weight r weight
+        → PartialTrailingSimulation K M (joined_seen T.down T.fine T.active T.code T.placed
+        (ties T.lower_shared T.lower_active T.lower_code T.lower_placed)) lower_weight r bound }
 {}
 
 /// What is typed of a kind of activity, and what ties it to another.
@@ -138,7 +148,7 @@ pub fn typed_runs_make_no_fault<T: Typed>()
 pub fn typed_simulations_implement<T: Typed>()
     ensures { (K : Kind T.Upper T.UpperShared) (L : Kind T.Lower T.LowerShared) (bound : ℕ)
         → 0 < bound → Sound K (typing T.typed_shared T.typed T.typed_code)
-        → PartialSimulation K L (ties T.shared T.active T.code) one (always bound)
+        → PartialSimulation K L (ties T.shared T.active T.code T.placed) one (always bound)
         → (main entry : ℕ) (shared : T.UpperShared) (below : T.LowerShared) → T.typed_code main → T.code main entry
         → T.typed_shared 0 shared → T.shared 0 shared below
         → Implements bound (boards_from K main shared) (boards_from L entry below) }
@@ -148,10 +158,21 @@ pub fn typed_simulations_implement<T: Typed>()
 pub fn typed_trailing_simulations_implement<T: Typed>()
     ensures { (K : Kind T.Upper T.UpperShared) (L : Kind T.Lower T.LowerShared) (r bound : ℕ)
         → 0 < bound → Sound K (typing T.typed_shared T.typed T.typed_code)
-        → PartialTrailingSimulation K L (ties T.shared T.active T.code) one r (always bound)
+        → PartialTrailingSimulation K L (ties T.shared T.active T.code T.placed) one r (always bound)
         → (main entry : ℕ) (shared : T.UpperShared) (below : T.LowerShared) → T.typed_code main → T.code main entry
         → T.typed_shared 0 shared → T.shared 0 shared below
         → Implements bound (boards_from K main shared) (boards_from L entry below) }
+{}
+
+/// Where the lower run has ended by a panic, so has the run above that it keeps, and those who panicked are at places
+/// that belong together.
+pub fn typed_panics_stand<T: Typed>()
+    ensures { (K : Kind T.Upper T.UpperShared) (L : Kind T.Lower T.LowerShared) (r bound : ℕ)
+        → 0 < bound → Sound K (typing T.typed_shared T.typed T.typed_code)
+        → PartialTrailingSimulation K L (ties T.shared T.active T.code T.placed) one r (always bound)
+        → (main entry : ℕ) (shared : T.UpperShared) (below : T.LowerShared) → T.typed_code main → T.code main entry
+        → T.typed_shared 0 shared → T.shared 0 shared below
+        → PanicsTogether bound T.placed (worlds_from K main shared) (worlds_from L entry below) }
 {}
 
 /// A run that ends in s steps has ended in `bound * s` steps of one that implements it, where nothing arrives.
@@ -169,12 +190,12 @@ pub fn simulations_have_greater_bounds<T: Tied>()
         (weight : T.Lower → T.LowerShared → ℕ) (bound greater : T.Upper → T.UpperShared → ℕ)
         → ((used : ℕ) (s : T.UpperShared) (t : T.LowerShared) (a : T.Upper) (c : T.Lower) → T.shared used s t
         → T.active s t a c → bound a s ≤ greater a s)
-        → Simulation K L (ties T.shared T.active T.code) weight bound
-        → Simulation K L (ties T.shared T.active T.code) weight greater }
+        → Simulation K L (ties T.shared T.active T.code T.placed) weight bound
+        → Simulation K L (ties T.shared T.active T.code T.placed) weight greater }
     ensures partial { (K : Kind T.Upper T.UpperShared) (L : Kind T.Lower T.LowerShared)
         (weight : T.Lower → T.LowerShared → ℕ) (bound greater : T.Upper → T.UpperShared → ℕ)
         → ((used : ℕ) (s : T.UpperShared) (t : T.LowerShared) (a : T.Upper) (c : T.Lower) → T.shared used s t
         → T.active s t a c → NoFault (K.step a s) → bound a s ≤ greater a s)
-        → PartialSimulation K L (ties T.shared T.active T.code) weight bound
-        → PartialSimulation K L (ties T.shared T.active T.code) weight greater }
+        → PartialSimulation K L (ties T.shared T.active T.code T.placed) weight bound
+        → PartialSimulation K L (ties T.shared T.active T.code T.placed) weight greater }
 {}

@@ -147,6 +147,7 @@ module _ (C : FlatCode) (placed : List Placed) (flash : List ℕ) (a : Addresses
             turn = m.below;
             completes = m.completes;
             match = m.match;
+            stands = λ n. tt;
           };
         };
   }

@@ -3,7 +3,7 @@ use Rattle.std.specs.Prelude.{◌≡◌, ℕ, ◌+◌, ◌-◌, ◌*◌, ◌<◌
 use Rattle.thumb_code.specs.Machine.{return_of}
 use Rattle.board_world.specs.Observations.{ByteList}
 use Rattle.board_world.specs.Limits.{depth_limit}
-use Rattle.board_world.specs.Simulation.{Ties, one}
+use Rattle.board_world.specs.Simulation.{Ties, anywhere, one}
 use Rattle.board_world.specs.Composed.{lagging}
 use Rattle.bank_model.specs.Fibers.{Fiber, Shared, begins_on}
 use Rattle.bank_model.specs.BoardMachine.{fibers}
@@ -129,7 +129,7 @@ module _ (C : FlatCode) (placed : List Placed) (flash : List ℕ) (a : Addresses
   IsShared used h t = (t.used ≡ used) × Shows Means a.class h used t.globals t.arena
 
   abbrev pub exact : Ties FlatActivity FlatHeap Fiber Shared
-  exact = record { Shared = IsShared; Active = λ h t x c. IsTied x c; Code = IsCode }
+  exact = record { Shared = IsShared; Active = λ h t x c. IsTied x c; Code = IsCode; Placed = anywhere }
 
   abbrev pub ties : Ties FlatActivity FlatHeap Fiber Shared
   ties = lagging (fibers flash) exact one pending

@@ -71,7 +71,16 @@ module _ {A S : Type 0} (K : Kind A S) (L : Kind FlatActivity FlatHeap) (T : Tie
         let f = sim.follows used s t a b shared active sound in
         let path = counted f.steps f.cost b t f.last f.memory f.path in
         let light : f.cost + 24 ≤ 512 = f.light in
-        record { steps = f.steps; cost = f.steps; last = f.last; memory = f.memory; path = path.1; light = (let z : f.steps + 1 ≤ 21 = omega (arith, light, path.0) in z); match = f.match };
+        record {
+          steps = f.steps;
+          cost = f.steps;
+          last = f.last;
+          memory = f.memory;
+          path = path.1;
+          light = (let z : f.steps + 1 ≤ 21 = omega (arith, light, path.0) in z);
+          match = f.match;
+          stands = f.stands;
+        };
   }
 
 -- flat code's own start is what lowering ties to the source's

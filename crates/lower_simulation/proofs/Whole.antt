@@ -34,6 +34,7 @@ module _ (P : TypedProgram) (texts : List ByteList) (typed : IsWellTyped P) (wei
         path = x.path;
         light = x.little;
         match = subst (λ y. Matches (source P texts) (flat (lowered P) texts) (T P texts weight light) used h y (step P texts a h) ((L P texts weight light).step x.last x.memory)) e x.match;
+        stands = λ m. tt;
       }
 
   pub lowering_keeps : Lowers P texts (flat (lowered P) texts) (λ h a b. Tied P texts a b) (CodeTied P texts) weight

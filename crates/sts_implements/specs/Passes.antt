@@ -2,7 +2,7 @@
 use Rattle.std.specs.Prelude.{ℕ, List}
 use Rattle.board_world.specs.Observations.{ByteList}
 use Rattle.board_world.specs.Kinds.{Kind}
-use Rattle.board_world.specs.Simulation.{Ties, one, always}
+use Rattle.board_world.specs.Simulation.{Ties, anywhere, one, always}
 use Rattle.board_world.specs.Composed.{seen}
 use Rattle.board_world.specs.Sound.{PartialSimulation}
 use Rattle.board_world.specs.Trailing.{PartialTrailingSimulation}
@@ -18,7 +18,7 @@ use Rattle.sts_implements.specs.Forgotten.{forget}
 -- The ties of lowering: the heaps are the same but for the types of items. `Act` ties an activity of the source to one of lowered code, and
 -- `Code` a function to its number there.
 abbrev pub lowered : {B : Type 0} → (Heap → Activity → B → Type 0) → (ℕ → ℕ → Type 0) → Ties Activity Heap B FlatHeap
-lowered Act Code = seen forget (λ used h. Unit {0}) Act Code
+lowered Act Code = seen forget (λ used h. Unit {0}) Act Code anywhere
 
 -- Lowering: lowered code does what the source does in steps that together weigh at most as much as one counted step may cost. The weight of
 -- a step of lowered code is the number of instructions that it may take.

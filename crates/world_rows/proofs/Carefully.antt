@@ -4,7 +4,7 @@ use Rattle.board_world.specs.declared.requests.Request.{Request}
 use Rattle.board_world.specs.declared.requests.Request.TheVariants.{Pause, Wait, Spawn, Listen, Raise, RaiseNow, Plot, Show, WriteNumber, WriteText, PinWrite, Radio, Time as AskTime, EventValue, Button, TextGlyph, NumberGlyph, Allocate, Push, Panic, End}
 use Rattle.board_world.specs.Kinds.{Turn, Goes, Asks, Takes, Pauses, Waits, Spawns, Listens, RaisesNow, Ends, Panics, Faults}
 use Rattle.board_world.specs.Requests.{asked}
-use Rattle.board_world.specs.Simulation.{Ties, ties, Follows, Matches, Onward, Going, Begins, one, always}
+use Rattle.board_world.specs.Simulation.{Ties, ties, anywhere, Follows, Matches, Onward, Going, Begins, one, always}
 use Rattle.board_world.specs.Sound.{NoFault, PartialSimulation, Typing, typing, After, Further, Ready, Stays, Sound}
 use Rattle.world_rows.specs.Clerks.{Task, Ask, Tell, Keep, Recall, Become, Routine, routine_of, begun, Clerk, clerk_asker, turn_of, clerks}
 use Rattle.world_rows.specs.Careful.{Teller, teller, told, teller_turn, tellers, IsCareful, AreCareful}
@@ -79,7 +79,7 @@ module _ (program : List Routine) (all : AreCareful program) where
 
 -- what ties a teller to a clerk
 abbrev pub tied : Ties Teller ℤ Clerk ℤ
-tied = ties (λ used s t. s ≡ t) (λ s t a c. a.clerk ≡ c) (λ f g. f ≡ g)
+tied = ties (λ used s t. s ≡ t) (λ s t a c. a.clerk ≡ c) (λ f g. f ≡ g) anywhere
 
 onward_same : (used : ℕ) (s s' t : ℤ) → Onward tied used s s' t s'
 onward_same used s s' t = record { shared = refl; others = λ a c h. h }
@@ -117,7 +117,16 @@ module _ (program : List Routine) where
 
   at_once : (used : ℕ) (s : ℤ) (a : Teller) → NoFault ((tellers program).step a s) → Follows (tellers program) (clerks program) tied one 1 used s s a a.clerk s
   at_once used s a n =
-      record { steps = 0; cost = 0; last = a.clerk; memory = s; path = (refl, refl, refl); light = omega arith; match = turn_matches a.clerk.tasks a.known used a.clerk s s n }
+      record {
+        steps = 0;
+        cost = 0;
+        last = a.clerk;
+        memory = s;
+        path = (refl, refl, refl);
+        light = omega arith;
+        match = turn_matches a.clerk.tasks a.known used a.clerk s s n;
+        stands = λ m. tt;
+      }
 
   pub clerks_do : PartialSimulation (tellers program) (clerks program) tied one (always 1)
   clerks_do =

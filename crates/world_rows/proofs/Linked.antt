@@ -5,7 +5,7 @@ use Rattle.board_world.specs.declared.requests.Request.TheVariants.{Pause, Wait,
 use Rattle.board_world.specs.Board.{Entry}
 use Rattle.board_world.specs.Kinds.{Goes}
 use Rattle.board_world.specs.World.{start}
-use Rattle.board_world.specs.Simulation.{Ties, Simulation, Follows, Matches, Onward, Going, Begins, Alike, one, always}
+use Rattle.board_world.specs.Simulation.{Ties, ties, anywhere, Simulation, Follows, Matches, Onward, Going, Begins, Alike, one, always}
 use Rattle.board_world.specs.Runs.{Arrival, Rises, Keeps}
 use Rattle.board_world.specs.Implements.{boards_from}
 use Rattle.world_rows.specs.Clerks.{Task, Ask, Tell, Keep, Recall, Become, Routine, routine_of, begun, Clerk, turn_of, clerks}
@@ -58,7 +58,7 @@ module _ (program : List Routine) (code : List Op) (at : ℕ → ℕ) (here : (f
     pub tasks : Stands code w.place (Enter c.frame ∷ task_ops at c.tasks)
 
   abbrev tied : Ties Clerk ℤ Worker ℤ
-  tied = record { Shared = λ used s t. s ≡ t; Active = λ s t c w. Entered c w ⊎ Entering c w; Code = λ f p. p ≡ at f }
+  tied = ties (λ used s t. s ≡ t) (λ s t c w. Entered c w ⊎ Entering c w) (λ f p. p ≡ at f) anywhere
 
   onward : (used : ℕ) (s s' t t' : ℤ) → s' ≡ t' → Onward tied used s s' t t'
   onward used s s' t t' e = record { shared = e; others = λ c d h. h }
@@ -134,6 +134,7 @@ module _ (program : List Routine) (code : List Op) (at : ℕ → ℕ) (here : (f
         path = (refl, refl, refl);
         light = omega arith;
         match = rw h.0 (begin_alike s t, onward used s s t t e);
+        stands = λ m. tt;
       }
   entered_follows used s t frame answer (task ∷ rest) p e h =
       record {
@@ -144,6 +145,7 @@ module _ (program : List Routine) (code : List Op) (at : ℕ → ℕ) (here : (f
         path = (record { place = suc p; frame = frame; answer = answer }, t, 0, ap (λ (o : Op). does o (record { place = p; frame = frame; answer = answer }) t) h.0, refl, (refl, refl, refl));
         light = omega arith;
         match = rw h.1.0 (task_alike used s t frame answer rest (suc p) e h.1.1 task);
+        stands = λ m. tt;
       }
 
   worker_is : (w : Worker) (frame : ℕ) (answer : ℤ) → frame ≡ w.frame → answer ≡ w.answer → record { place = w.place; frame = frame; answer = answer } ≡ w
@@ -157,7 +159,7 @@ module _ (program : List Routine) (code : List Op) (at : ℕ → ℕ) (here : (f
       let same : C ≡ w = worker_is w c.frame c.answer h.frame h.answer in
       subst (λ (v : Worker). Does 3 used s t c v) same
       (let light : f.cost + 1 ≤ 2 = f.light in
-      record { steps = f.steps; cost = f.cost; last = f.last; memory = f.memory; path = f.path; light = omega arith; match = f.match }))
+      record { steps = f.steps; cost = f.cost; last = f.last; memory = f.memory; path = f.path; light = omega arith; match = f.match; stands = f.stands }))
   follows used s t c w e (inr h) =
       (let C : Worker = record { place = suc w.place; frame = c.frame; answer = c.answer } in
       let f : Does 2 used s t c C = entered_follows used s t c.frame c.answer c.tasks (suc w.place) e h.tasks.1 in
@@ -171,6 +173,7 @@ module _ (program : List Routine) (code : List Op) (at : ℕ → ℕ) (here : (f
         path = (C, t, f.cost, first, omega arith, f.path);
         light = omega arith;
         match = f.match;
+        stands = f.stands;
       })
 
   simulation : Simulation (clerks program) (workers code) tied one (always 3)

@@ -1,7 +1,7 @@
 -- A slow kind does what its kind does.
 use Rattle.std.proofs.Common.{◌≡◌, ℕ, ◌+◌, Bool, true, false, refl, ap, sym, subst, arith, List}
 use Rattle.board_world.specs.Kinds.{Kind, Turn, Goes, Asks, Takes, Pauses, Waits, Spawns, Listens, RaisesNow, Ends, Panics, Faults}
-use Rattle.board_world.specs.Simulation.{Ties, Simulation, Follows, Matches, Onward, Going, Begins, one, always}
+use Rattle.board_world.specs.Simulation.{Ties, anywhere, Simulation, Follows, Matches, Onward, Going, Begins, one, always}
 use Rattle.board_world.specs.Board.{Entry}
 use Rattle.board_world.specs.World.{start}
 use Rattle.board_world.specs.Runs.{Arrival, Rises, Keeps}
@@ -53,7 +53,16 @@ easy_own =
 module _ {A S : Type 0} (K : Kind A S) (w : ℕ) where
   at_once : (used : ℕ) (s : S) (a : A) (due : Bool) → Follows K (slow K) its_own (always w) (w + w) used s s a (record { self = a; due = due }) s
   at_once used s a false =
-      record { steps = 0; cost = 0; last = fresh a; memory = s; path = (refl, refl, refl); light = omega arith; match = slowed_matches K its_own easy_own used s s (K.step a s) }
+      record {
+        steps = 0;
+        cost = 0;
+        last = fresh a;
+        memory = s;
+        path = (refl, refl, refl);
+        light = omega arith;
+        match = slowed_matches K its_own easy_own used s s (K.step a s);
+        stands = λ m. tt;
+      }
   at_once used s a true =
       record {
         steps = 1;
@@ -63,6 +72,7 @@ module _ {A S : Type 0} (K : Kind A S) (w : ℕ) where
         path = (fresh a, s, 0, refl, omega arith, (refl, refl, refl));
         light = omega arith;
         match = slowed_matches K its_own easy_own used s s (K.step a s);
+        stands = λ m. tt;
       }
 
   -- with weight w for each of its steps
@@ -77,7 +87,7 @@ module _ {A S : Type 0} (K : Kind A S) (w : ℕ) where
 
 -- two slow kinds, one behind the other
 pub twice : {A S : Type 0} (K : Kind A S) → Simulation K (slow (slow K)) (joined Anything IsItself IsNumber its_own) one (always 4)
-twice K = compose K (slow K) (slow (slow K)) (λ s. s) Anything IsItself IsNumber its_own (always 2) one (always 4) (slow_does K 2) (slow_does (slow K) 1)
+twice K = compose K (slow K) (slow (slow K)) (λ s. s) Anything IsItself IsNumber anywhere its_own (always 2) one (always 4) (slow_does K 2) (slow_does (slow K) 1)
 
 -- so do their worlds, whatever arrives between two steps
 pub twice_runs : {A S : Type 0} (K : Kind A S) (main : ℕ) (shared : S) (until : ℕ) (script : List Entry) (arrivals : List Arrival) (m : ℕ) → Rises 0 arrivals →
