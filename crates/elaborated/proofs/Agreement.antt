@@ -192,7 +192,7 @@ module _ (w : Whole) where
     callee_tells p even (Handler at body) read args m n rest G told b is_none is_called = then_tells _ _ m n _ G _ _ told (λ x h. never w _ _ _ (is_none _ _ refl))
     callee_tells p even f read args m n rest G told b is_none is_called = then_tells _ _ m n _ G _ _ told (λ x h. never w _ _ _ (is_none _ _ refl))
 
-    given_tells : (p : Site) (even : Even p) (takes : List StaticType) (args : Trees) (m n : ℕ) → Tells (s.elab_given w p takes args m n) (failures_at p [] args) (SeesGiven w p takes args m n)
+    pub given_tells : (p : Site) (even : Even p) (takes : List StaticType) (args : Trees) (m n : ℕ) → Tells (s.elab_given w p takes args m n) (failures_at p [] args) (SeesGiven w p takes args m n)
     given_tells p even [] none m n = ok_tells _ _ (record { kinds = refl; trees = λ q. refl })
     given_tells p even (u ∷ us) none m n = ok_tells _ _ (record { kinds = refl; trees = λ q. absurd (go_too_few w.known.classes u us q) })
     given_tells p even [] (more a rest) m n =
@@ -293,7 +293,7 @@ module _ (w : Whole) where
     value_tells p even (present a) m n =
         last_tells _ (λ x. Some x) m n _ _ _ (tree_tells p even Free a m n) (λ x h. record { is = (x.it, refl, h.kind); value = made_end _ _ _ (h.tree tt) })
 
-    initial_tells : (p : Site) (even : Even p) (at : ℕ) (shape : Option Annotation) (first : OptionalTree) (m n : ℕ) → written_failure w.names at shape ≡ None
+    pub initial_tells : (p : Site) (even : Even p) (at : ℕ) (shape : Option Annotation) (first : OptionalTree) (m n : ℕ) → written_failure w.names at shape ≡ None
         → Tells (s.elab_initial w p shape first m n) (initial_failure w.tables w.names w.known p.place shape first) (SeesInitial w p at shape first m n)
     initial_tells p even at None absent m n q = ok_tells _ _ (record { kind = refl; bound_is = λ u h. cc; value = λ u h. refl })
     initial_tells p even at (Some t) absent m n q =
@@ -334,7 +334,7 @@ module _ (w : Whole) where
         last_tells _ (λ ds. d.it ∷ ds) _ _ _ _ _ (locals_tell later (statement_even w.tables w.names w.known m p (Let 0 fixed (next a ended)) even) fixed rest _ _) (λ ds j.
         made_then _ _ _ _ h (made_end _ _ _ j)))
 
-    statement_tells : (p : Site) (even : Even p) (a : Statement) (m n : ℕ) → Tells (s.elab_statement w p a m n) (statement_failure w.tables w.names w.known p.place a) (StatementMade w p a m n)
+    pub statement_tells : (p : Site) (even : Even p) (a : Statement) (m n : ℕ) → Tells (s.elab_statement w p a m n) (statement_failure w.tables w.names w.known p.place a) (StatementMade w p a m n)
     statement_tells p even (Block at all) m n =
         last_tells _ (λ xs. e.Block xs) m n _ _ _ (statements_tell (in_block p) even all m n) (λ x h. made_end _ _ _ h)
     statement_tells p even (Let at fixed each) m n =
@@ -400,7 +400,7 @@ module _ (w : Whole) where
         last_tells _ (λ (x : Seen). e.Plain x.tree) m n _ _ _ (tree_tells p even Free a m n) (λ x h. made_end _ _ _ (h.tree tt))
     statement_tells p even (Empty at) m n = ok_tells _ _ refl
 
-    statements_tell : (p : Site) (even : Even p) (all : Statements) (m n : ℕ) → Tells (s.elab_statements w p all m n) (statements_failure w.tables w.names w.known p.place all)
+    pub statements_tell : (p : Site) (even : Even p) (all : Statements) (m n : ℕ) → Tells (s.elab_statements w p all m n) (statements_failure w.tables w.names w.known p.place all)
         (λ x. made_statements w.tables w.names w.known w.numbers p all m n ≡ Some x)
     statements_tell p even done m n = ok_tells _ _ refl
     statements_tell p even (also a rest) m n =

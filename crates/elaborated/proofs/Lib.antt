@@ -2,3 +2,4 @@ mod Telling
 mod Nodes
 mod Parts
 mod Agreement
+pub mod Laws

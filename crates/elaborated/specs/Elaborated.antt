@@ -103,8 +103,8 @@ pub record Callable : Type 0 where
   pub gives : Option StaticType
   pub node : ValueType → TypedTrees → TypedTree
 
--- The arguments of a call of the board: their trees, where they are as many as it takes and each fits; and whether no
--- function stands where a handler is wanted.
+-- The arguments of a call of the board: their trees, where they are as many as it takes and each fits; and whether
+-- something other than a function is where a handler is wanted.
 pub record BoardArguments : Type 0 where
   pub trees : Option TypedTrees
   pub lacks_handler : Bool
@@ -271,8 +271,8 @@ module _ (w : Whole) where
     elab s r (Handler at body) =
         handled false at (λ tree. record { tree = tree; kind = nothing }) (elab_routine s body)
 
-    -- What is called, but for calls of the board, and then its call; none, where something stands there that isn't
-    -- called, but read.
+    -- What is called, but for calls of the board, and then its call; none, where something is there that isn't called,
+    -- but read.
     pub elab_callee : Site → Tree → (read : Elab Seen) → (Option Callable → Elab Seen) → Elab Seen
     elab_callee s (Name at x) read rest = called_name s (finds w.tables w.known s.place x) at rest
     elab_callee s (Member at a m) read rest = elim (constant_of w.tables w.known s.place a m) [
@@ -311,7 +311,7 @@ module _ (w : Whole) where
         elab_handler s a (elab s Free a) >-> λ x. elab_asked s ps rest
         >-> λ xs. yields (one_asked x (not (is_some x)) xs)
 
-    -- a function's name or a function expression, as a handler; none, where something else stands there, which is read
+    -- a function's name or a function expression, as a handler; none, where something else is there, which is read
     pub elab_handler : Site → Tree → (read : Elab Seen) → Elab (Option TypedTree)
     elab_handler s (Name at x) read = served_name s (finds w.tables w.known s.place x) at
     elab_handler s (Handler at body) read =
@@ -337,7 +337,7 @@ module _ (w : Whole) where
       | false ↦ elab s (given_written w.names shape) a >-> λ x. yields (Some x)
     ]
 
-    -- declared names of a block: each is a local, numbered behind those before it
+    -- declared names of a block: each is a local, numbered after those before it
     pub elab_local : Site → Declaration → Elab TypedDeclaration
     elab_local s (Declare at x shape first) =
         check (written_failure w.names at shape) (elab_initial s shape first
@@ -348,11 +348,11 @@ module _ (w : Whole) where
     pub elab_locals : Site → Bool → Declarations → Elab (List TypedDeclaration)
     elab_locals s fixed ended = yields []
     elab_locals s fixed (next a rest) = λ m n.
-        let behind = behind_statement w.tables w.names w.known m s (Let 0 fixed (next a ended)) in
-        let all = elab_local s a >-> λ d. elab_locals behind fixed rest >-> λ ds. yields (d ∷ ds) in
+        let later = behind_statement w.tables w.names w.known m s (Let 0 fixed (next a ended)) in
+        let all = elab_local s a >-> λ d. elab_locals later fixed rest >-> λ ds. yields (d ∷ ds) in
         all m n
 
-    -- a statement; a test that isn't boolean fails behind its parts
+    -- a statement; a test that isn't boolean fails after its parts
     pub elab_statement : Site → Statement → Elab TypedStatement
     elab_statement s (Block at all) = elab_statements (in_block s) all >-> λ xs. yields (e.Block xs)
     elab_statement s (Let at fixed each) = elab_locals s fixed each >-> λ ds. yields (e.Let fixed ds)

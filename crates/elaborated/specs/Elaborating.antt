@@ -19,7 +19,7 @@ yields a = λ m n. Ok (record { it = a; locals = []; routines = [] })
 abbrev pub fails : {A : Type 0} → Code → ℕ → Elab A
 fails code at = λ m n. Err (record { code = code; at = at })
 
--- what is made of two, the second of them behind the first
+-- what is made of two, one after the other
 abbrev pub both_made : {A B : Type 0} → Made A → Made B → Made B
 both_made x y = record { it = y.it; locals = x.locals ++ y.locals; routines = x.routines ++ y.routines }
 
@@ -31,7 +31,7 @@ abbrev pub carries_on : {A B : Type 0} → Result (Made A) Failure → (A → El
 carries_on (Err why) g m n = Err why
 carries_on (Ok x) g m n = joined_with x (g x.it (m + length x.locals) (n + length x.routines))
 
--- one behind the other, whose locals and functions are numbered behind those of the first
+-- one after the other, whose locals and functions are numbered after those of the first
 infixl 10 ◌>->◌
 abbrev pub ◌>->◌ : {A B : Type 0} → Elab A → (A → Elab B) → Elab B
 f >-> g = λ m n. carries_on (f m n) g m n

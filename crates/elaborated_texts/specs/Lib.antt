@@ -1,0 +1,3 @@
+pub mod ElaboratedTexts
+pub mod ElaborationLaws
+pub mod ElaboratedRows
