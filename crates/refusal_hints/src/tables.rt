@@ -22,7 +22,7 @@ use drawers::{
 use forms::{
     forms_1, forms_2, forms_3, forms_4, forms_5, forms_6, forms_7, forms_8, forms_9, forms_10,
 };
-use given::{doubled, ended, given_1, given_2, given_3, methods};
+use given::{doubled, ended, given_1, given_2, given_3, heads, methods};
 use marks::{bodies, marks_1, marks_2, marks_3, marks_4, marks_5};
 use members::{includes, members_1, members_2, members_3};
 use modern::{modern_1, modern_2, modern_3, modern_4, modern_5, modern_6};
@@ -113,6 +113,7 @@ fn of_names() -> Rows {
 /// Code 11: types that do not fit.
 fn of_types() -> Rows {
     [
+        heads(),
         given_1(),
         given_2(),
         given_3(),
@@ -127,7 +128,6 @@ fn of_types() -> Rows {
         types_5(),
         types_6(),
         methods(),
-        &[],
         &[],
         &[],
         &[],

@@ -242,6 +242,58 @@ static GIVEN_3: [Row; 10] = [
     },
 ];
 
+/// Code 11: heads of methods, and calls that give nothing.
+pub fn heads() -> &'static [Row] {
+    &HEADS
+}
+
+static HEADS: [Row; 7] = [
+    Row {
+        at: &[Is("super"), Is("(")],
+        sentence: "A constructor calls `super(..)` first, and only that of a class with a base.",
+        example: "class B extends A { constructor() { super() } }",
+        ..ANYWHERE
+    },
+    Row {
+        at: &[Is("constructor")],
+        sentence: "The constructor of a class with a base begins with `super(..)`.",
+        example: "class B extends A { constructor() { super() } }",
+        ..ANYWHERE
+    },
+    Row {
+        at: &[Name, Is("("), Name, Is(":")],
+        sentence: "A method of this name is in the base, with other parameters or another result: write those, or choose another name.",
+        example: "class B extends A { second(x: number): void { } }",
+        ..ANYWHERE
+    },
+    Row {
+        alone: true,
+        at: &[Name, Is("("), Is(")"), Is(":")],
+        sentence: "A method of this name is in the base, with other parameters or another result: write those, or choose another name.",
+        example: "class B extends A { second(): void { } }",
+        ..ANYWHERE
+    },
+    Row {
+        alone: true,
+        at: &[Name, Is("("), Is(")"), Is("{")],
+        sentence: "A method of this name is in the base, with other parameters or another result: write those, or choose another name.",
+        example: "class B extends A { second(): void { } }",
+        ..ANYWHERE
+    },
+    Row {
+        at: &[Name, Is("("), Is(")"), Sign],
+        sentence: "The function gives no value: its `return` is missing; or it takes arguments, and none are here; or this is no function but a variable.",
+        example: "function add(a: number, b: number): number { return a + b }",
+        ..ANYWHERE
+    },
+    Row {
+        at: &[Text, Is("[")],
+        sentence: "A text is shown and written as a whole: its letters can't be asked.",
+        example: "basic.showString(\"HELLO\")",
+        ..ANYWHERE
+    },
+];
+
 /// Code 11: what is given to methods.
 pub fn methods() -> &'static [Row] {
     &METHODS

@@ -1,6 +1,6 @@
 // Rows: the first that fits is told.
 use around_place::Inside::{Bracket, Nothing};
-use around_place::Test::{Any, Is, Name, Number};
+use around_place::Test::{Any, Is, Name, Number, Text};
 use around_place::{ANYWHERE, Row};
 
 /// Code 6: what other languages and later TypeScript have.
@@ -402,7 +402,58 @@ pub fn modern_6() -> &'static [Row] {
     &MODERN_6
 }
 
-static MODERN_6: [Row; 3] = [
+static MODERN_6: [Row; 10] = [
+    Row {
+        at: &[Is("implements")],
+        sentence: "There is no `implements`: a class has what is written in it, and by `extends` what its base has.",
+        example: "class B extends A { }",
+        ..ANYWHERE
+    },
+    Row {
+        line: &[Is("while")],
+        before: &[Is(")")],
+        at: &[Is(":")],
+        sentence: "A block begins with `{` and ends with `}`; no `:` is before it.",
+        example: "while (true) { basic.pause(100) }",
+        ..ANYWHERE
+    },
+    Row {
+        line: &[Is("if")],
+        before: &[Is(")")],
+        at: &[Is(":")],
+        sentence: "A block begins with `{` and ends with `}`; no `:` is before it.",
+        example: "if (a == 1) { basic.pause(100) }",
+        ..ANYWHERE
+    },
+    Row {
+        line: &[Is("for")],
+        before: &[Is(")")],
+        at: &[Is(":")],
+        sentence: "A block begins with `{` and ends with `}`; no `:` is before it.",
+        example: "for (let i = 0; i < 5; i++) { }",
+        ..ANYWHERE
+    },
+    Row {
+        before: &[Is("else")],
+        at: &[Is(":")],
+        sentence: "A block begins with `{` and ends with `}`; no `:` is before it.",
+        example: "if (a == 1) { } else { }",
+        ..ANYWHERE
+    },
+    Row {
+        before: &[Is("let"), Name],
+        at: &[Number],
+        sentence: "A `=` is missing between the name and its value.",
+        example: "let x = 5",
+        ..ANYWHERE
+    },
+    Row {
+        before: &[Is("let"), Name],
+        at: &[Text],
+        sentence: "A `=` is missing between the name and its value.",
+        example: "let s = \"a\"",
+        ..ANYWHERE
+    },
     Row {
         before: &[Is("map"), Is("("), Name],
         at: &[Is("=>")],

@@ -333,7 +333,14 @@ pub fn names_6() -> &'static [Row] {
     &NAMES_6
 }
 
-static NAMES_6: [Row; 9] = [
+static NAMES_6: [Row; 10] = [
+    Row {
+        before: &[Is("if"), Is("(")],
+        at: &[Name, Is("=")],
+        sentence: "`=` sets; equal is written `==`. And the name isn't known: declare it by `let` before.",
+        example: "if (a == 3) { }",
+        ..ANYWHERE
+    },
     Row {
         at: &[Is("alert"), Is("(")],
         sentence: "There is no `alert`: the display shows a text by `basic.showString`.",
@@ -606,7 +613,14 @@ pub fn names_10() -> &'static [Row] {
     &NAMES_10
 }
 
-static NAMES_10: [Row; 9] = [
+static NAMES_10: [Row; 10] = [
+    Row {
+        before: &[Is("while"), Is("(")],
+        at: &[Name, Is("=")],
+        sentence: "`=` sets; equal is written `==`. And the name isn't known: declare it by `let` before.",
+        example: "while (a == 3) { }",
+        ..ANYWHERE
+    },
     Row {
         at: &[Like("pins"), Is("."), Any],
         sentence: "`pins` has digitalWritePin.",
@@ -668,7 +682,7 @@ pub fn names_11() -> &'static [Row] {
     &NAMES_11
 }
 
-static NAMES_11: [Row; 9] = [
+static NAMES_11: [Row; 10] = [
     Row {
         at: &[Name, Is("."), Is("charAt")],
         sentence: "A text is shown and written as a whole: its letters can't be asked.",
@@ -701,6 +715,13 @@ static NAMES_11: [Row; 9] = [
         at: &[Name, Is("=")],
         sentence: "What `for` counts is declared by `let`.",
         example: "for (let i = 0; i < 5; i++) { }",
+        ..ANYWHERE
+    },
+    Row {
+        before: &[Is("."), Name, Is("(")],
+        at: &[Name, Is("=")],
+        sentence: "An argument has no name: write the values alone, in their order.",
+        example: "led.plot(1, 2)",
         ..ANYWHERE
     },
     Row {
