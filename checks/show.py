@@ -113,8 +113,10 @@ def classes():
     put("wrong.ts", "led.plot(1 2)\n")
     put("none.json", '{"end": 1000, "events": []}\n')
     put("small.json", '{"end": 1000, "events": [{"at": 1, "do": "down", "button": "a"}]}\n')
+    put("long.json", '{"end": 2000, "events": []}\n')
     for boards, status, says in (([("hears.ts", "none.json"), ("wrong.ts", "none.json")], 10, "wrong.ts:1:12: A comma"), ([("hears.ts", "none.json"), ("hears.ts", "small.json")], 11, 'small.json:1: entry 1: "button" is "A" or "B"'),
-                                 ([("hears.ts", "none.json"), ("gone.ts", "none.json")], 21, "gone.ts: there is no such file\n"), ([], 11, "odd.json:1: ")):
+                                 ([("hears.ts", "none.json"), ("gone.ts", "none.json")], 21, "gone.ts: there is no such file\n"), ([], 11, "odd.json:1: "),
+                                 ([("hears.ts", "none.json"), ("hears.ts", "long.json")], 11, "odd.json: board 1: its script long.json ends at 2000, and the class at 1000\n")):
         put("odd.json", json.dumps({"end": 1000, "boards": [{"program": it[0], "script": it[1]} for it in boards], "lose": []}))
         came, said, _ = show("odd.json")
         expect(f"a class that is refused, {boards}", (status, says), (came, said[:len(says)]))
