@@ -22,7 +22,8 @@ given, folder = dict(enumerate(sys.argv[1:])), own_folder()
 os.mkdir(f"{folder}/bin")
 for at, name in enumerate(("sts", "view")):
     shutil.copy(program(given.get(at), name), f"{folder}/bin/{name}")
-shutil.copy(f"{TOP}/bin/show", f"{folder}/bin/show")
+for name in ("show", "printable.py"):
+    shutil.copy(f"{TOP}/bin/{name}", f"{folder}/bin/{name}")
 shutil.copytree(f"{TOP}/examples", f"{folder}/examples")
 wrong, counts = [], {"commands": 0, "files": 0, "forms": 0, "refusals": 0, "accepted": 0}
 

@@ -496,6 +496,11 @@ def look_at_classes():
     expect("a program of a class by its name", judged("classes/waits.ts")[2], counts(no_wanted_file=1))
     put("classes/ping.txt", "180 radio 1\nend 180 quiet\n")
     expect("a program of a class of which something is wanted", judged("classes")[3]["ping.ts"]["verdict"], "passed")
+    for end, text in (("ts", "basic.pause(1)\n"), ("json", '{"end": 1000, "events": []}'), ("txt", "end 1 quiet\n"), ("class.json", game)):
+        put(f"solo/solo.{end}", text)
+    status, said, found, _ = judged("solo")
+    expect("a class beside a program with a script of its name", (status, found), (0, counts(passed=1)))
+    expect_in("a class beside a program with a script of its name", "left out        solo/solo.class.json: a class file, which `sts class` runs, and no solo.class.txt says what is wanted\n", said)
     put("hosts", ":\n")
     expect("classes, by --hosts", judged("classes", "--hosts", "hosts")[2], counts(passed=4, failed=1, refused=3, not_run=1))
     look_at_boards(game, wanted)
@@ -574,7 +579,7 @@ def look_at_documents():
     """What the documents show behind `$ bin/judge` is what it writes."""
     shutil.copytree(f"{TOP}/examples", f"{FOLDER}/as/examples")
     os.mkdir(f"{FOLDER}/as/bin")
-    for it in glob.glob(f"{JUDGE}*"):
+    for it in [*glob.glob(f"{JUDGE}*"), f"{TOP}/bin/printable.py"]:
         shutil.copy(it, f"{FOLDER}/as/bin/{os.path.basename(it)}")
     stub("as/bin/program", f"[ \"${{1:-}}\" = view ] && exec '{TOP}/bin/program' view; echo '{PROGRAM}'")
     shown = 0
