@@ -100,7 +100,7 @@ def kinds():
     polling = [f"{TOP}/examples/arrivals/polling{it}" for it in (".ts", ".json", ".arrivals.json")]
     for words in (polling, [polling[0], polling[2]]):
         expect(f"arrivals, {len(words)} files", (0, '0 serial "downup"\nend 0 quiet\tnothing is left to do\n'), show(*words)[:2])
-    for name, says in ((f"{counter}.json", "is a script, which stands after its program: bin/show PROGRAM"), (polling[2], "are arrivals, which stand after the program and its script: bin/show PROGRAM SCRIPT")):
+    for name, says in ((f"{counter}.json", "is a script, which comes after its program: bin/show PROGRAM"), (polling[2], "are arrivals, which come after the program and its script: bin/show PROGRAM SCRIPT")):
         expect("a file in a program's place", (10, f"{name} {says} {name}\n"), show(name)[:2])
 
 
