@@ -104,12 +104,14 @@ def functions_of(text):
             at += 1
             continue
         indent, begin = found[1], at
-        head, clauses, is_head = [], [], True
+        head, clauses, is_head, depth = [], [], True, 0
         while at < len(lines):
             line = lines[at]
             is_head = is_head and not re.match(r"\s*(ensures|requires|where)\b", line)
             (head if is_head else clauses).append(line)
-            if line == f"{indent}{{" or is_head and line.endswith(" {") or line.endswith(";") and is_head or line.endswith("}") and is_head:
+            depth += 0 if is_head else line.count("{") - line.count("}")
+            # (a trait's method has no body: its clauses end with a semicolon)
+            if line == f"{indent}{{" or is_head and line.endswith(" {") or line.endswith(";") and (is_head or not depth) or line.endswith("}") and is_head:
                 break
             at += 1
         end = at

@@ -4,11 +4,12 @@ that asks for more than a gigabyte at once, which no input needs. The inputs:
 
 - each row of checks/commands.txt; `big 1` to `big 200`;
 - texts of each kilobyte up to their limit and past it, of one long comment, of statements, of tokens, of texts and
-  names, and of nested parts, by `run`, and some by `check` and `build`; scripts of each kilobyte, HEX files and images of each
-  kilobyte; numbers of arrivals and of losses, and budgets, by powers of two and their neighbours;
+  names, and of nested parts, by `run`, and some by `check` and `build`; scripts of each kilobyte, HEX files and images
+  of each kilobyte; numbers of arrivals, losses and items of a script, and budgets, by powers of two and their
+  neighbours, and of arrivals and losses each hundred, of items each ten thousand;
 - names of 1 to 4,096 bytes;
 - classes of one to eight boards with a program of 1 to 64 KB at each board in turn, and at all;
-- 10,000 programs as bench/programs/generate.py makes them.
+- 10,000 programs as bench/programs/generate.py makes them, with their images.
 
 First it is tried itself: a program that ends with 30 must fail, the program within little memory must not, and a
 program that asks for more than there is must fail. It wants a C compiler, and takes less than eight minutes on two
@@ -118,6 +119,11 @@ def near_powers(most):
     return sorted(it for it in found if 0 <= it <= most + 1)
 
 
+def counts_to(most):
+    """Those, and each hundred up to it."""
+    return sorted({*near_powers(most), *range(0, most, 100)})
+
+
 def filled(size, line):
     """A text of that many bytes, of lines that are numbered; the last is cut before its end, and a comment fills the rest."""
     text = ""
@@ -176,15 +182,18 @@ def inputs_of_one(tries):
                     continue
                 yield ["run", name, "--budget=10000"]
                 if kilobytes in (1, 8, 64, 65):
-                    yield from (["check", name], ["build", name])
+                    yield ["check", name]
+                if kilobytes in (1, 8, 64, 65) or kind in ("calls", "functions"):
+                    yield ["build", name]
 
     tries.each("texts", of_texts())
     tries.each("scripts", (["run", "small.ts", tries.write(f"{n}.json", scripts_of(n * KB))] for n in range(1, 1026)))
+    tries.each("lists", (["run", "small.ts", tries.write(f"list{n}.json", '{"end":1000,"events":[' + ",".join("0" * n) + "]}")] for n in sorted({*near_powers(1 << 19), *range(0, 1 << 19, 10_000)})))
     tries.each("images", (["run-hex", tries.write(f"{n}.hex", hex_text(bytes.fromhex("803F00200D0000000D00000000DF") + bytes(n * KB - 14)))] for n in range(1, 258)))
     tries.each("HEX files", (["run-hex", tries.write(f"long{n}.hex", ENDS + ":0000000000\n" * (n * KB // 12) + ":00000001FF\n")] for n in range(1, 1026)))
 
     def of_arrivals():
-        for n in near_powers(4096):
+        for n in counts_to(4096):
             arrivals = ",".join(f'{{"after":{k + 1},"do":"raise","source":50,"value":{k}}}' for k in range(n))
             yield ["run-at", "small.ts", "s.json", tries.write(f"arrivals{n}.json", f'{{"arrivals":[{arrivals}]}}'), "--budget=100000"]
 
@@ -209,7 +218,7 @@ def classes(tries, is_long):
             for at in range(boards):
                 yield ["class", tries.write(f"class{boards}.{at}.{n}.json", a_class([f"board{n}.ts" if it == at else "small.ts" for it in range(boards)])), "--budget=100000"]
             yield ["class", tries.write(f"class{boards}.all.{n}.json", a_class([f"board{n}.ts"] * boards)), "--budget=100000"]
-    for n in near_powers(4096):
+    for n in counts_to(4096):
         yield ["class", tries.write(f"lose{n}.json", a_class(["small.ts"] * 8, [{"at": 0, "from": 0, "to": 7}] * n)), "--budget=100000"]
 
 
@@ -218,7 +227,7 @@ def generated(tries, count):
     for seed in range(count):
         text, script = generate.made(seed)
         name, with_ = tries.write(f"g{seed % (2 * AT_ONCE)}.ts", text), tries.write(f"g{seed % (2 * AT_ONCE)}.json", json.dumps(script))
-        yield ["run", name, with_, "--stats", "--budget=1000000"]
+        yield ["run", name, with_, "--stats", "--image", "--budget=1000000"]
 
 
 def is_sound(tries):
