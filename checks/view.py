@@ -78,7 +78,15 @@ def sentences():
         wanted[f"image refused {row[0]}"] = f"the HEX file breaks a rule: {row[2]}"
     for line, sentence in wanted.items():
         expect(f"what is said of {line}", f"{line}\t{sentence}\n", view([], f"{line}\n".encode())[1].decode())
-    return len(wanted) + closings()
+    return len(wanted) + own_panics(wanted) + closings()
+
+
+def own_panics(wanted):
+    """What is said of the panics that no table names, as 120, which ends like 20: that they are the program's own."""
+    (own,) = [row[1] for row in table("TEACHERS.md", "## Panic codes") if row[0] == "another"]
+    lines = [it for it in (f"panic 1 {code}" for code in range(256)) if it not in wanted]
+    expect("what is said of other panics", [f"{it}\t{own}" for it in lines], view(["--all"], "".join(f"{it}\n" for it in lines).encode())[1].decode().split("\n")[:-1])
+    return len(lines)
 
 
 def closings():
