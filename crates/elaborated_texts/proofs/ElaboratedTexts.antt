@@ -18,7 +18,7 @@ use Rattle.sts_scope.specs.Kinds.{value_types}
 use Rattle.sts_scope.specs.Entries.{Naming, classes_in, item_entries, parameter_kinds}
 use Rattle.sts_scope.specs.Failures.{Failure, ◌then◌, unless}
 use Rattle.sts_scope.specs.Handlers.{unwritten, item_routines, declared_handlers, routine_handlers, all_routines}
-use Rattle.sts_scope.specs.Headings.{written_failure, parameters_failure, member_failure, members_failure, item_failure, headings_failure}
+use Rattle.sts_scope.specs.Headings.{written_failure, parameters_failure, is_constructor, member_failure, members_failure, item_failure, headings_failure}
 use Rattle.sts_scope.specs.Bases.{bases_failure, chains_failure}
 use Rattle.sts_scope.specs.Globals.{names_failure}
 use Rattle.sts_scope.specs.Lookup.{base_of, is_second, inherits_field}
@@ -70,18 +70,18 @@ module _ (w : Whole) where
     field_set c d at i shape value kind (Some r) h = looked_is (kind_at w.known d) _ kind _ h refl
 
     members_say : (c n d d' : ℕ) (built : Bool) (members : List ClassMember) (ss : List Source) → Suffix sources d (member_sources w.names c members ++ ss) → w.known.library ≤ d
-        → members_failure w.names w.known.entries w.known.classes c d' built members ≡ None
+        → members_failure w.tables.names w.names w.known.entries w.known.classes c d' built members ≡ None
         → Says (x.elab_members w c n d members) (members_nodes w.tables w.names w.known c d members) (MembersMade c n d members)
     members_say c n d d' built [] ss s near h = says_ok no_members _ (record { sets = refl; functions = λ sets. refl })
     members_say c n d d' built (Field (Declare at i shape value) ∷ rest) ss s near h =
         let a : Declaration = Declare at i shape value in
-        let A = member_failure w.names w.known.entries w.known.classes c d' built (Field a) in
-        let B = members_failure w.names w.known.entries w.known.classes c (d' + 1) (built || false) rest in
+        let A = member_failure w.tables.names w.names w.known.entries w.known.classes c d' built (Field a) in
+        let B = members_failure w.tables.names w.names w.known.entries w.known.classes c (d' + 1) (built || is_constructor w.tables.names (Field a)) rest in
         let src : Source = declared_source w.names (this.Object c) a in
         let later_sources = member_sources w.names c rest ++ ss in
         let told = first_tells w (this.Object c) at i shape value (λ kind r. set_first w.known c i kind r) 0 n in
         says_then (x.elab_field w c a 0 n) _ _ _ _ _ (told_says _ _ _ told) (λ y none m.
-        says_last _ _ _ _ _ (members_say c (n + declared_handlers a) (suc d) (d' + 1) (built || false) rest ss
+        says_last _ _ _ _ _ (members_say c (n + declared_handlers a) (suc d) (d' + 1) (built || is_constructor w.tables.names (Field a)) rest ss
         (suffix_one sources d src later_sources s) (omega (arith, near)) (last A B h)) (λ xs none' later.
         let kind_is = kind_known w sources follow (this.Object c) d at i shape value m.kind (suffix_head sources d src later_sources s) near m.bound_is in
         says_ok _ _ (record {
@@ -94,8 +94,8 @@ module _ (w : Whole) where
         })))
     members_say c n d d' built (Method i (Does at params gives all arrow) ∷ rest) ss s near h =
         let r : Routine = Does at params gives all arrow in
-        let A = member_failure w.names w.known.entries w.known.classes c d' built (Method i r) in
-        let B = members_failure w.names w.known.entries w.known.classes c (d' + 1) (built || false) rest in
+        let A = member_failure w.tables.names w.names w.known.entries w.known.classes c d' built (Method i r) in
+        let B = members_failure w.tables.names w.names w.known.entries w.known.classes c (d' + 1) (built || false) rest in
         let u1 = unless (not (is_second w.known.entries d' (o.Class c) i)) TwiceNamed at in
         let u2 = unless (not (inherits_field w.known.entries w.known.classes c i)) TwiceNamed at in
         let pf = parameters_failure w.names params 0 params in
@@ -108,21 +108,21 @@ module _ (w : Whole) where
         (suffix_one sources d src later_sources s) (omega (arith, near)) (last A B h)) (λ xs none' later.
         says_ok _ _ (record { sets = later.sets; functions = λ sets. looked_is _ _ own _ m (looked_is _ _ (xs.functions sets) _ (later.functions sets) refl) })))
     members_say c n d d' built (Constructor r ∷ rest) ss s near h =
-        let A = member_failure w.names w.known.entries w.known.classes c d' built (Constructor r) in
-        let B = members_failure w.names w.known.entries w.known.classes c (d' + 0) (built || true) rest in
+        let A = member_failure w.tables.names w.names w.known.entries w.known.classes c d' built (Constructor r) in
+        let B = members_failure w.tables.names w.names w.known.entries w.known.classes c (d' + 0) (built || true) rest in
         says_then (x.elab_constructor w c n r) _ _ _ _ _ (constructor_says w c n r) (λ own none m.
         says_last _ _ _ _ _ (members_say c (suc n + routine_handlers r) d (d' + 0) (built || true) rest ss s near (last A B h)) (λ xs none' later.
         says_ok _ _ (record { sets = later.sets; functions = λ sets. looked_is _ _ (own sets) _ (m sets) (looked_is _ _ (xs.functions sets) _ (later.functions sets) refl) })))
 
     class_says : (c n d d' : ℕ) (members : List ClassMember) (ss : List Source) → Suffix sources d (member_sources w.names c members ++ ss) → w.known.library ≤ d
-        → members_failure w.names w.known.entries w.known.classes c d' false members ≡ None
+        → members_failure w.tables.names w.names w.known.entries w.known.classes c d' false members ≡ None
         → Says (x.elab_class w c n d members) (members_nodes w.tables w.names w.known c d members) (λ rs. p.class_made w.tables w.names w.known w.numbers c n d members ≡ Some rs)
     class_says c n d d' members ss s near h =
         says_last (x.elab_members w c (n + unwritten members) d members) _ _ _ _ (members_say c (n + unwritten members) d d' false members ss s near h) (λ y none m.
         says_ok _ _ (looked_is _ _ y.sets _ m.sets (looked_is _ _ (y.functions y.sets) _ (m.functions y.sets) refl)))
 
     part_says : (c d m n : ℕ) (i : TopLevel) (ss : List Source) → Suffix sources d (item_sources w.names c i ++ ss) → w.known.library ≤ d
-        → item_failure w.names w.known.entries w.known.classes c d i ≡ None
+        → item_failure w.tables.names w.names w.known.entries w.known.classes c d i ≡ None
         → Says (x.elab_part w c d m n i) (item_nodes w.tables w.names w.known c d i) (λ y. p.part_made w.tables w.names w.known w.numbers c d m n i ≡ Some y)
     part_says c d m n (Class at i base base_at members) ss s near h =
         says_last (x.elab_class w c n (suc d) members) _ _ _ _
@@ -139,14 +139,14 @@ module _ (w : Whole) where
         says_last (x.elab_main w d a m n) _ _ _ _ (told_says _ _ _ (main_tells d a m n)) (λ y none k. says_ok _ _ (looked_is _ _ y _ k refl))
 
     parts_say : (c d m n : ℕ) (text : Program) → Suffix sources d (sources_from w.names c text) → w.known.library ≤ d
-        → headings_failure w.names w.known.entries w.known.classes c d text ≡ None
+        → headings_failure w.tables.names w.names w.known.entries w.known.classes c d text ≡ None
         → Says (x.elab_parts w c d m n text) (nodes_failure w.tables w.names w.known c d text) (λ y. p.items_made w.tables w.names w.known w.numbers c d m n text ≡ Some y)
     parts_say c d m n [] s near h = says_ok _ _ refl
     parts_say c d m n (i ∷ rest) s near h =
         let es = item_entries w.names c i in
         let later = sources_from w.names (c + classes_in i) rest in
-        let A = item_failure w.names w.known.entries w.known.classes c d i in
-        let B = headings_failure w.names w.known.entries w.known.classes (c + classes_in i) (d + length es) rest in
+        let A = item_failure w.tables.names w.names w.known.entries w.known.classes c d i in
+        let B = headings_failure w.tables.names w.names w.known.entries w.known.classes (c + classes_in i) (d + length es) rest in
         let s' : Suffix sources (d + length es) later = suffix_at sources (d + length (item_sources w.names c i)) (d + length es) later
         (ap (λ (j : ℕ). d + j) (item_sourced w.names c i)) (suffix_step sources d (item_sources w.names c i) later s) in
         says_then (x.elab_part w c d m n i) _ _ _ _ _ (part_says c d m n i later s near (first A B h)) (λ y none k.
@@ -202,12 +202,12 @@ module _ (built : TextsAreBuilt) (tables : Tables) (library text : Program) (kin
   limits = typed tables library text kinds >>= λ P. limits_failure tables.texts P
 
   -- the headings of functions
-  headings_none : heads ≡ None → headings_failure w.names k.entries k.classes c0 k.library text ≡ None
+  headings_none : heads ≡ None → headings_failure w.tables.names w.names k.entries k.classes c0 k.library text ≡ None
   headings_none h =
       let pass_names : Option Failure = names_failure tables.names k.entries k.library (drop k.library k.entries) in
       let pass_bases : Option Failure = bases_failure (drop c0 k.classes) in
       let pass_chains : Option Failure = chains_failure k.classes c0 (drop c0 k.classes) in
-      let pass_headings : Option Failure = headings_failure w.names k.entries k.classes c0 k.library text in
+      let pass_headings : Option Failure = headings_failure w.tables.names w.names k.entries k.classes c0 k.library text in
       last pass_chains pass_headings (last pass_bases (pass_chains then pass_headings) (last pass_names (pass_bases then pass_chains then pass_headings) h))
 
   -- the declarations of the text come after those of the library

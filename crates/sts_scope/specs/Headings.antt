@@ -1,5 +1,5 @@
 -- The headings of functions and members of classes: types are known, parameters have one, and no name stands twice.
-use Rattle.std.specs.Prelude.{ℕ, ◌+◌, Bool, true, false, not, ◌||◌, ◌==◌, Option, Some, None, List, [], ◌∷◌, length, is_some, take}
+use Rattle.std.specs.Prelude.{ℕ, ◌+◌, Bool, true, false, not, ◌&&◌, ◌||◌, ◌==◌, Option, Some, None, List, [], ◌∷◌, length, is_some, take, codes}
 use Rattle.std.specs.List.{list_any}
 use Rattle.sts_base.specs.declared.refused.Code.TheVariants.{UnknownName, TwiceNamed, NeedsType}
 use Rattle.sts_syntax.specs.Annotations as s
@@ -12,6 +12,7 @@ use Rattle.sts_scope.specs.declared.entries.ClassHead.{ClassHead}
 use Rattle.sts_scope.specs.Failures.{Failure, ◌then◌, unless, own}
 use Rattle.sts_scope.specs.Entries.{Naming, kind_of, classes_in, item_entries, member_entry}
 use Rattle.sts_scope.specs.Lookup.{is_second, inherited, inherits_field}
+use Rattle.sts_scope.specs.Rules.{is_spelled}
 
 -- an unknown type name, at that name
 abbrev pub type_name_failure : Naming → Annotation → Option Failure
@@ -50,15 +51,22 @@ abbrev pub is_typed : Option Annotation → OptionalTree → Bool
 is_typed None absent = false
 is_typed _ _ = true
 
-abbrev pub is_constructor : ClassMember → Bool
-is_constructor (Constructor r) = true
-is_constructor _ = false
+-- a field of the name `constructor`, by the table of names
+abbrev pub declares_constructor : List (List ℕ) → Declaration → Bool
+declares_constructor spellings (Declare at x shape first) = is_spelled spellings x (codes "constructor")
 
--- The member that is the d-th of all declarations, of the class c, behind a constructor or not.
-module _ (names : Naming) (entries : List Entry) (classes : List ClassHead) where
-  abbrev pub field_failure : ℕ → ℕ → Declaration → Option Failure
-  field_failure c d (Declare at x shape first) =
-      unless (not (is_second entries d (o.Class c) x)) TwiceNamed at
+-- a constructor, or a field of that name: a class has at most one of them
+abbrev pub is_constructor : List (List ℕ) → ClassMember → Bool
+is_constructor spellings (Field a) = declares_constructor spellings a
+is_constructor spellings (Method x r) = false
+is_constructor spellings (Constructor r) = true
+
+-- The member that is the d-th of all declarations, of the class c; whether one that is named `constructor` is before it.
+module _ (spellings : List (List ℕ)) (names : Naming) (entries : List Entry) (classes : List ClassHead) where
+  abbrev pub field_failure : ℕ → ℕ → Bool → Declaration → Option Failure
+  field_failure c d made (Declare at x shape first) =
+      unless (not (made && is_spelled spellings x (codes "constructor"))) TwiceNamed at
+      then unless (not (is_second entries d (o.Class c) x)) TwiceNamed at
       then unless (not (is_some (inherited entries classes c x))) TwiceNamed at
       then unless (is_typed shape first) NeedsType at then written_failure names at shape
 
@@ -69,7 +77,7 @@ module _ (names : Naming) (entries : List Entry) (classes : List ClassHead) wher
       then routine_failure names r
 
   abbrev pub member_failure : ℕ → ℕ → Bool → ClassMember → Option Failure
-  member_failure c d made (Field a) = field_failure c d a
+  member_failure c d made (Field a) = field_failure c d made a
   member_failure c d made (Method x r) = method_failure c d x r
   member_failure c d made (Constructor r) = unless (not made) TwiceNamed (routine_at r) then routine_failure names r
 
@@ -77,7 +85,7 @@ module _ (names : Naming) (entries : List Entry) (classes : List ClassHead) wher
   members_failure c d made [] = None
   members_failure c d made (m ∷ rest) =
       member_failure c d made m
-      then members_failure c (d + length (member_entry names c m)) (made || is_constructor m) rest
+      then members_failure c (d + length (member_entry names c m)) (made || is_constructor spellings m) rest
 
   -- of a part of the text, which begins with the class c and the d-th declaration
   abbrev pub item_failure : ℕ → ℕ → TopLevel → Option Failure

@@ -8,9 +8,9 @@ use Rattle.sts_syntax.specs.Programs.{ClassMember, Field, Method, Constructor, T
 use Rattle.sts_scope.specs.Failures.{Failure}
 use Rattle.sts_scope.specs.Scopes.{heading_refusal}
 
--- a, b, c, $d
+-- a, b, c, $d, constructor
 abbrev pub names : List (List ℕ)
-names = codes "a" ∷ codes "b" ∷ codes "c" ∷ codes "$d" ∷ []
+names = codes "a" ∷ codes "b" ∷ codes "c" ∷ codes "$d" ∷ codes "constructor" ∷ []
 
 -- behind no library
 abbrev pub refused : Program → Option Failure

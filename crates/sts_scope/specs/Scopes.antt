@@ -38,7 +38,7 @@ abbrev pub passes : List (List ℕ) → Program → Naming → List Entry → Li
 passes spellings text names entries classes d c =
     names_failure spellings entries d (drop d entries) then bases_failure (drop c classes)
     then chains_failure classes c (drop c classes)
-    then headings_failure names entries classes c d text
+    then headings_failure spellings names entries classes c d text
 
 -- The spellings are those of the table of names. The library's own are never refused.
 abbrev pub heading_refusal : List (List ℕ) → Program → Program → Option Failure

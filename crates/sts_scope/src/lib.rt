@@ -28,7 +28,7 @@ pub use failures::{or_no_memory, unless};
 pub use kind_rules::{array_of, below, class_of, flat, goes, is_array, item, same, takes_null};
 pub use kinds::{Base, StaticType};
 pub use known::{Found, Known, Local, Part, This};
-pub use lookup::{is_dollar, sort_of};
+pub use lookup::{is_dollar, is_spelled, sort_of};
 pub use rows::{rows_of_bases, rows_of_headings, rows_of_names};
 pub use rules::{all_go, all_go_to, assign, choose, counted, element, joined, operate, prefix};
 pub use symbol_table::SymbolTable;

@@ -21,6 +21,17 @@ pub fn is_dollar(tables: &Tables, x: u32) -> bool
     }
 }
 
+/// Whether a name is spelled so.
+#[tactic(auto, using(sts_syntax::proofs::Laws::same_bytes_is))]
+pub fn is_spelled(tables: &Tables, x: u32, bytes: &[u8]) -> bool
+    ensures { result ≡ rule.is_spelled tables.now.names x bytes.now }
+{
+    match tables.names.get(x as usize) {
+        None => false,
+        Some(these) => these.as_slice() == bytes,
+    }
+}
+
 /// The base of a class.
 pub fn base_of(classes: &[ClassHead], c: usize) -> Option<u32>
     ensures { result ≡ look.base_of classes.now c }

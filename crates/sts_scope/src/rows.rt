@@ -37,6 +37,12 @@ pub fn rows_of_headings()
     ensures second_member { refused (class 6 0 (field 10 1 ∷ empty_method 20 1 ∷ []) ∷ []) ≡ failure_at TwiceNamed 20 }
     ensures second_constructor { refused (class 6 0 (constructor 10 ∷ constructor 30 ∷ []) ∷ [])
         ≡ failure_at TwiceNamed 30 }
+    ensures constructor_after_field { refused (class 6 0 (field 10 4 ∷ constructor 30 ∷ []) ∷ [])
+        ≡ failure_at TwiceNamed 30 }
+    ensures field_after_constructor { refused (class 6 0 (constructor 10 ∷ empty_method 20 1 ∷ field 30 4 ∷ []) ∷ [])
+        ≡ failure_at TwiceNamed 30 }
+    ensures field_named_constructor { refused (class 6 0 (field 10 4 ∷ []) ∷ subclass 30 1 0 40 (constructor 44 ∷ [])
+        ∷ []) ≡ None }
     ensures field_of_base { refused (class 6 0 (field 10 1 ∷ []) ∷ subclass 30 2 0 40 (field 44 1 ∷ []) ∷ [])
         ≡ failure_at TwiceNamed 44 }
     ensures method_over_field { refused (subclass 6 2 0 16 (empty_method 20 1 ∷ []) ∷ class 40 0 (field 44 1 ∷ []) ∷ [])

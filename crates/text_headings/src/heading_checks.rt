@@ -16,8 +16,8 @@ ghost use Rattle.text_headings.specs.Standing.{classes_before, IsItemAt, IsTextA
 use crate::numbers::{class_at, globals_in};
 use std::alloc::Global;
 use std::collections::BTreeSet;
-use sts_base::{Code, Refused};
-use sts_scope::{ByNumber, Environment, Owner, kind_of, unless};
+use sts_base::{Code, Refused, Tables};
+use sts_scope::{ByNumber, Environment, Owner, is_spelled, kind_of, unless};
 use sts_syntax::{Binding, Body, Item, Member, Param, Shape};
 
 /// The name of a type is known.
@@ -103,46 +103,60 @@ fn check_routine(alloc: Global, classes: &ByNumber, body: &Body) -> Result<(), R
     check_written(classes, body.at, &body.gives)
 }
 
-/// A field.
-#[tactic(auto, using(sts_syntax::proofs::Laws::declaration_parts))]
-fn check_field(
-    classes: &ByNumber,
-    known: &Environment,
-    c: u32,
-    d: usize,
-    b: &Binding,
-) -> Result<(), Refused>
-    ensures { Finds result (heading.field_failure
-        (value_at classes.now.values.items) known.now.entries known.now.classes c d (declaration b.now)) }
-{
-    unless(
-        !known.entries().is_second(d, Owner::Class(c), b.name),
-        Code::TwiceNamed,
-        b.at,
-    )?;
-    unless(known.inherited(c, b.name).is_none(), Code::TwiceNamed, b.at)?;
-    unless(
-        b.shape.is_some() || b.first.is_some(),
-        Code::NeedsType,
-        b.at,
-    )?;
-    check_written(classes, b.at, &b.shape)
-}
-
-/// What is known where members stand.
+/// What is known where members are.
 #[derive(Clone, Copy)]
 struct Lent<'a> {
     alloc: Global,
+    /// the names' spellings
+    tables: &'a Tables,
     /// the numbers of the classes, by their names
     classes: &'a ByNumber,
     /// all declarations
     known: &'a Environment,
 }
 
+/// Whether a field's name is `constructor`.
+#[tactic(auto, using(sts_syntax::proofs::Laws::declaration_parts))]
+fn declares_constructor(tables: &Tables, b: &Binding) -> bool
+    ensures { result ≡ heading.declares_constructor tables.now.names (declaration b.now) }
+{
+    is_spelled(tables, b.name, b"constructor")
+}
+
+/// A field. None of the name `constructor` is beside a constructor.
+#[tactic(auto, using(sts_syntax::proofs::Laws::declaration_parts))]
+fn check_field(lent: &Lent, c: u32, d: usize, made: bool, b: &Binding) -> Result<(), Refused>
+    ensures { Finds result (heading.field_failure lent.now.tables.now.names
+        (value_at lent.now.classes.now.values.items) lent.now.known.now.entries lent.now.known.now.classes c d made
+        (declaration b.now)) }
+{
+    unless(
+        !(made && is_spelled(lent.tables, b.name, b"constructor")),
+        Code::TwiceNamed,
+        b.at,
+    )?;
+    unless(
+        !lent.known.entries().is_second(d, Owner::Class(c), b.name),
+        Code::TwiceNamed,
+        b.at,
+    )?;
+    unless(
+        lent.known.inherited(c, b.name).is_none(),
+        Code::TwiceNamed,
+        b.at,
+    )?;
+    unless(
+        b.shape.is_some() || b.first.is_some(),
+        Code::NeedsType,
+        b.at,
+    )?;
+    check_written(lent.classes, b.at, &b.shape)
+}
+
 /// A method.
 #[tactic(auto, using(crate::proofs::Parameters::method_at))]
 fn check_method(lent: &Lent, c: u32, d: usize, x: u32, body: &Body) -> Result<(), Refused>
-    ensures { Finds result (heading.method_failure
+    ensures { Finds result (heading.method_failure lent.now.tables.now.names
         (value_at lent.now.classes.now.values.items) lent.now.known.now.entries lent.now.known.now.classes c d x
         (routine body.now)) }
 {
@@ -182,7 +196,7 @@ fn check_member(
 ) -> Result<usize, Refused>
     requires { d + length (entry.member_entry (value_at lent.now.classes.now.values.items) c (class_member member.now))
         < 2 ^ 64 }
-    ensures found { Finds result (heading.member_failure
+    ensures found { Finds result (heading.member_failure lent.now.tables.now.names
         (value_at lent.now.classes.now.values.items) lent.now.known.now.entries lent.now.known.now.classes c d made
         (class_member member.now)) }
     ensures next { IfOk result (λ n. n ≡ d + length
@@ -190,7 +204,7 @@ fn check_member(
 {
     match member {
         Member::Field(b) => {
-            check_field(lent.classes, lent.known, c, d, b)?;
+            check_field(lent, c, d, made, b)?;
             Ok(d + 1)
         }
         Member::Method { name, body } => {
@@ -204,12 +218,12 @@ fn check_member(
     }
 }
 
-/// Whether a member is a constructor.
-fn is_constructor(member: &Member) -> bool
-    ensures { result ≡ heading.is_constructor (class_member member.now) }
+/// Whether a member is a constructor, or a field of that name.
+fn is_constructor(tables: &Tables, member: &Member) -> bool
+    ensures { result ≡ heading.is_constructor tables.now.names (class_member member.now) }
 {
     match member {
-        Member::Field(_) => false,
+        Member::Field(b) => declares_constructor(tables, b),
         Member::Method { name: _, body: _ } => false,
         Member::Constructor(_) => true,
     }
@@ -218,6 +232,7 @@ fn is_constructor(member: &Member) -> bool
 /// The members of a class.
 fn check_members(
     alloc: Global,
+    tables: &Tables,
     classes: &ByNumber,
     known: &Environment,
     c: u32,
@@ -226,7 +241,7 @@ fn check_members(
 ) -> Result<usize, Refused>
     requires { first + length (entry.member_entries (value_at classes.now.values.items) c (class_members members.now))
         < 2 ^ 64 }
-    ensures found { Finds result (heading.members_failure
+    ensures found { Finds result (heading.members_failure tables.now.names
         (value_at classes.now.values.items) known.now.entries known.now.classes c first false
         (class_members members.now)) }
     ensures next { IfOk result (λ n. n ≡ first
@@ -234,6 +249,7 @@ fn check_members(
 {
     let lent = Lent {
         alloc,
+        tables,
         classes,
         known,
     };
@@ -241,7 +257,7 @@ fn check_members(
     let mut made = false;
     for i in 0..members.len() {
         d = check_member(&lent, c, d, made, &members[i])?;
-        made = made || is_constructor(&members[i]);
+        made = made || is_constructor(tables, &members[i]);
     }
     Ok(d)
 }
@@ -249,6 +265,7 @@ fn check_members(
 /// A part of a text, whose first declaration is the d-th. How many are declared behind it.
 fn check_item(
     alloc: Global,
+    tables: &Tables,
     classes: &ByNumber,
     known: &Environment,
     d: usize,
@@ -257,7 +274,7 @@ fn check_item(
     requires room { d + length (entry.item_entries (value_at classes.now.values.items)
         (classes_before known.now.entries d) (top_level item.now)) < 2 ^ 64 }
     requires stands { IsItemAt (value_at classes.now.values.items) known.now.entries d (top_level item.now) }
-    ensures found { Finds result (heading.item_failure
+    ensures found { Finds result (heading.item_failure tables.now.names
         (value_at classes.now.values.items) known.now.entries known.now.classes (classes_before known.now.entries d) d
         (top_level item.now)) }
     ensures next { IfOk result (λ n. n ≡ d + length
@@ -273,7 +290,7 @@ fn check_item(
             members,
         } => {
             let c = class_at(known, d);
-            check_members(alloc, classes, known, c, d + 1, members.as_slice())
+            check_members(alloc, tables, classes, known, c, d + 1, members.as_slice())
         }
         Item::Function { name: _, body } => {
             check_routine(alloc, classes, body)?;
@@ -286,13 +303,14 @@ fn check_item(
 /// The headings of a text, whose first declaration is this one.
 pub fn check_headings(
     alloc: Global,
+    tables: &Tables,
     classes: &ByNumber,
     known: &Environment,
     first: usize,
     items: &[Item],
 ) -> Result<(), Refused>
     requires { IsTextAt (value_at classes.now.values.items) known.now.entries first (top_levels items.now) }
-    ensures { Finds result (heading.headings_failure
+    ensures { Finds result (heading.headings_failure tables.now.names
         (value_at classes.now.values.items) known.now.entries known.now.classes
         (classes_before known.now.entries first) first (top_levels items.now)) }
 {
@@ -300,7 +318,7 @@ pub fn check_headings(
     let _count = known.entries().len();
     let mut d = first;
     for i in 0..items.len() {
-        d = check_item(alloc, classes, known, d, &items[i])?;
+        d = check_item(alloc, tables, classes, known, d, &items[i])?;
     }
     Ok(())
 }

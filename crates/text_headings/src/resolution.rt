@@ -57,6 +57,7 @@ fn check_all(
     check_chains(known, first as usize)?;
     check_headings(
         alloc,
+        tables,
         &declared.classes,
         known,
         known.library(),

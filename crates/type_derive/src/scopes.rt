@@ -8,7 +8,7 @@ use crate::locals::Locals;
 use sts_base::Tables;
 use sts_scope::{
     Base, DeclarationKind, Entry, Environment, Found, Owner, Part, StaticType, This, class_of,
-    flat, is_array, is_dollar, item, same, sort_of,
+    flat, is_array, is_dollar, is_spelled, item, same, sort_of,
 };
 
 /// Where something stands.
@@ -147,17 +147,6 @@ pub fn name_fixed(known: &Environment, scope: &Scope, found: Found) -> bool
         Found::Function(_) => false,
         Found::Class(_) => false,
         Found::Unknown => false,
-    }
-}
-
-/// Whether a name is spelled so.
-#[tactic(auto, using(sts_syntax::proofs::Laws::same_bytes_is))]
-fn is_spelled(tables: &Tables, x: u32, bytes: &[u8]) -> bool
-    ensures { result ≡ rule.is_spelled tables.now.names x bytes.now }
-{
-    match tables.names.get(x as usize) {
-        None => false,
-        Some(these) => these.as_slice() == bytes,
     }
 }
 

@@ -390,7 +390,7 @@ module _ (tables : Tables) (names : Naming) (k : Known) (numbers : Numbering) (P
 
         -- the functions of all members: `built` says whether a constructor stood before
         members_sound : (start n d d' : ℕ) (inits : List TypedStatement) (built : Bool) (members : List ClassMember) (tail : List (Option ℕ)) → Walk c n d inits members
-            → members_failure names k.entries k.classes c d' built members ≡ None → (built ≡ false → maker_number numbers c ≡ maker_from start n members) → ((S : Setting) → HasThis P S (t.Object c) → AllInits S inits)
+            → members_failure tables.names names k.entries k.classes c d' built members ≡ None → (built ≡ false → maker_number numbers c ≡ maker_from start n members) → ((S : Setting) → HasThis P S (t.Object c) → AllInits S inits)
             → Suffix marks n (member_marks c members ++ tail) → n + members_routines members ≤ P.main → Each tables names k numbers P made n (members_made tables names k numbers c inits n d members)
         members_sound start n d d' inits built [] tail walk hd maker_so inits_so s near = tt
         members_sound start n d d' inits built (Field (Declare i x shape first') ∷ rest) tail walk hd maker_so inits_so s near =
@@ -407,9 +407,9 @@ module _ (tables : Tables) (names : Naming) (k : Known) (numbers : Numbering) (P
             inners_sound tables names k numbers P made marks marked n (initial_made tables names k numbers c n a).routines (member_marks c rest ++ tail) inners
             (subst (λ (y : ℕ). Suffix marks n (blank y ++ (member_marks c rest ++ tail))) (sym count) s1) (omega (arith, count, near)) in
             let s2 : Suffix marks (n + j) (member_marks c rest ++ tail) = suffix_at marks (n + length (blank j)) (n + j) (member_marks c rest ++ tail) (ap (λ (y : ℕ). n + y) (blank_length j)) (suffix_step marks n (blank j) (member_marks c rest ++ tail) s1) in
-            let hr = last (member_failure names k.entries k.classes c d' built m) (members_failure names k.entries k.classes c (d' + length (member_entry names c m)) (built || is_constructor m) rest) hd in
+            let hr = last (member_failure tables.names names k.entries k.classes c d' built m) (members_failure tables.names names k.entries k.classes c (d' + length (member_entry names c m)) (built || is_constructor tables.names m) rest) hd in
             each_at tables names k numbers P made n j (initial_made tables names k numbers c n a).routines (members_made tables names k numbers c inits (n + j) (suc d) rest) count here
-            (members_sound start (n + j) (suc d) (d' + 1) inits (built || false) rest tail (walk_field c n d inits a rest walk) hr (λ q. maker_so (or_left built false q)) inits_so s2 (omega (arith, near)))
+            (members_sound start (n + j) (suc d) (d' + 1) inits (built || is_constructor tables.names m) rest tail (walk_field c n d inits a rest walk) hr (λ q. maker_so (or_left built (is_constructor tables.names m) q)) inits_so s2 (omega (arith, near)))
         members_sound start n d d' inits built (Method x (Does i params gives all arrow) ∷ rest) tail walk hd maker_so inits_so s near =
             let r : Routine = Does i params gives all arrow in
             let m : ClassMember = Method x r in
@@ -422,7 +422,7 @@ module _ (tables : Tables) (names : Naming) (k : Known) (numbers : Numbering) (P
             let here = method_sound n d x inits i params gives all arrow rest (member_marks c rest ++ tail) walk s1 (omega (arith, near)) in
             let at : n + length (blank (suc j)) ≡ suc n + j = ap (λ (y : ℕ). n + y) (blank_length (suc j)) ∙ (let z : n + suc j ≡ suc n + j = omega arith in z) in
             let s2 : Suffix marks (suc n + j) (member_marks c rest ++ tail) = suffix_at marks (n + length (blank (suc j))) (suc n + j) (member_marks c rest ++ tail) at (suffix_step marks n (blank (suc j)) (member_marks c rest ++ tail) s1) in
-            let hr = last (member_failure names k.entries k.classes c d' built m) (members_failure names k.entries k.classes c (d' + length (member_entry names c m)) (built || is_constructor m) rest) hd in
+            let hr = last (member_failure tables.names names k.entries k.classes c d' built m) (members_failure tables.names names k.entries k.classes c (d' + length (member_entry names c m)) (built || is_constructor tables.names m) rest) hd in
             each_more tables names k numbers P made n j made_here (members_made tables names k numbers c inits (suc n + j) (suc d) rest) count here
             (members_sound start (suc n + j) (suc d) (d' + 1) inits (built || false) rest tail (walk_method c n d inits x r rest walk) hr (λ q. maker_so (or_left built false q)) inits_so s2 (omega (arith, near)))
         members_sound start n d d' inits built (Constructor (Does i params gives all arrow) ∷ rest) tail walk hd maker_so inits_so s near =
@@ -434,21 +434,21 @@ module _ (tables : Tables) (names : Naming) (k : Known) (numbers : Numbering) (P
             let hA : A ≡ None = first A B walk.no_failure in
             let made_here = constructor_made tables names k numbers c n inits r in
             let count : length made_here ≡ suc j = constructor_counts tables names k numbers c n inits r hA in
-            let mf = member_failure names k.entries k.classes c d' built m in
-            let hm : mf ≡ None = first mf (members_failure names k.entries k.classes c (d' + length (member_entry names c m)) (built || is_constructor m) rest) hd in
+            let mf = member_failure tables.names names k.entries k.classes c d' built m in
+            let hm : mf ≡ None = first mf (members_failure tables.names names k.entries k.classes c (d' + length (member_entry names c m)) (built || is_constructor tables.names m) rest) hd in
             let unbuilt : built ≡ false = not_is built (unless_true (not built) TwiceNamed (routine_at r) (first (unless (not built) TwiceNamed (routine_at r)) (routine_failure names r) hm)) in
             let s1 : Suffix marks n (Some c ∷ blank j ++ (member_marks c rest ++ tail)) = subst (λ (xs : List (Option ℕ)). Suffix marks n xs) (append_assoc (Some c ∷ blank j) (member_marks c rest) tail) s in
             let own_placed = placed_left P n made_here (members_made tables names k numbers c inits (suc n + j) d rest) walk.placed in
             let here = maker_sound n inits i params gives all arrow (member_marks c rest ++ tail) walk.formed.0 hA inits_so own_placed (maker_so unbuilt) s1 (omega (arith, near)) in
             let at : n + length (Some c ∷ blank j) ≡ suc n + j = ap (λ (y : ℕ). n + suc y) (blank_length j) ∙ (let z : n + suc j ≡ suc n + j = omega arith in z) in
             let s2 : Suffix marks (suc n + j) (member_marks c rest ++ tail) = suffix_at marks (n + length (Some c ∷ blank j)) (suc n + j) (member_marks c rest ++ tail) at (suffix_step marks n (Some c ∷ blank j) (member_marks c rest ++ tail) s1) in
-            let hr = last mf (members_failure names k.entries k.classes c (d' + length (member_entry names c m)) (built || is_constructor m) rest) hd in
+            let hr = last mf (members_failure tables.names names k.entries k.classes c (d' + length (member_entry names c m)) (built || is_constructor tables.names m) rest) hd in
             each_more tables names k numbers P made n j made_here (members_made tables names k numbers c inits (suc n + j) d rest) count here
             (members_sound start (suc n + j) d (d' + 0) inits (built || true) rest tail (walk_constructor c n d inits r rest walk) hr (λ q. absurd (or_never built q)) inits_so s2 (omega (arith, near)))
 
         -- all functions of a class
         pub class_sound : (n d d' : ℕ) (members : List ClassMember) (tail : List (Option ℕ)) → Walk c (n + unwritten members) d (initials tables names k numbers c (n + unwritten members) d members) members
-            → members_failure names k.entries k.classes c d' false members ≡ None → maker_number numbers c ≡ maker_from n n members → Placed P n (class_made tables names k numbers c n d members)
+            → members_failure tables.names names k.entries k.classes c d' false members ≡ None → maker_number numbers c ≡ maker_from n n members → Placed P n (class_made tables names k numbers c n d members)
             → ((b : ℕ) → base_of k.classes c ≡ Some b → unwritten members ≡ 1 → maker_takes_of k.classes b ≡ maker_takes_of k.classes c)
             → Suffix marks n ((opened (unwritten members) c ++ member_marks c members) ++ tail) → n + (unwritten members + members_routines members) ≤ P.main → Each tables names k numbers P made n (class_made tables names k numbers c n d members)
         class_sound n d d' members tail walk hd maker_so placed passes s near =

@@ -19,7 +19,7 @@ use Rattle.sts_scope.specs.Kinds.{nothing}
 use Rattle.sts_scope.specs.Failures.{◌then◌, unless, own}
 use Rattle.sts_scope.specs.Entries.{Naming, kind_of, classes_in, member_entries, item_entries, main_entries, global_entries, entries_from}
 use Rattle.sts_scope.specs.Globals.{is_dollar}
-use Rattle.sts_scope.specs.Headings.{type_name_failure, type_failure, written_failure, parameters_failure, member_failure, members_failure, item_failure, headings_failure}
+use Rattle.sts_scope.specs.Headings.{type_name_failure, type_failure, written_failure, parameters_failure, is_constructor, member_failure, members_failure, item_failure, headings_failure}
 use Rattle.sts_scope.specs.Lookup.{is_second, inherits_field, base_of}
 use Rattle.sts_scope.specs.Places.{NameScope, inner, outside}
 use Rattle.sts_scope.specs.Rules.{kind_at, is_boolean}
@@ -180,22 +180,22 @@ module _ (names : Naming) (k : Known) (tables : Tables) where
         (r.it, solved d (declared_source names self (Declare i x None value)) s near ∙ r.is)
 
     typed_members : (c d d' : ℕ) (built : Bool) (members : List ClassMember) (ss : List Source) → Suffix sources d (member_sources names c members ++ ss) → k.library ≤ d
-        → members_failure names k.entries k.classes c d' built members ≡ None → members_nodes tables names k c d members ≡ None → EachIs TypedAs d (member_entries names c members)
+        → members_failure tables.names names k.entries k.classes c d' built members ≡ None → members_nodes tables names k c d members ≡ None → EachIs TypedAs d (member_entries names c members)
     typed_members c d d' built [] ss s near h1 h2 = tt
     typed_members c d d' built (Field (Declare i x shape value) ∷ rest) ss s near h1 h2 =
         let a : Declaration = Declare i x shape value in
-        let A = member_failure names k.entries k.classes c d' built (Field a) in
-        let B = members_failure names k.entries k.classes c (d' + 1) (built || false) rest in
+        let A = member_failure tables.names names k.entries k.classes c d' built (Field a) in
+        let B = members_failure tables.names names k.entries k.classes c (d' + 1) (built || is_constructor tables.names (Field a)) rest in
         let C = outside_failure tables names k (this.Object c) a in
         let D = members_nodes tables names k c (suc d) rest in
         let src : Source = declared_source names (this.Object c) a in (
           declared_known (this.Object c) d i x shape value (suffix_head sources d src (member_sources names c rest ++ ss) s) near (first C D h2),
-          typed_members c (suc d) (d' + 1) (built || false) rest ss (suffix_one sources d src (member_sources names c rest ++ ss) s) (omega (arith, near)) (last A B h1) (last C D h2),
+          typed_members c (suc d) (d' + 1) (built || is_constructor tables.names (Field a)) rest ss (suffix_one sources d src (member_sources names c rest ++ ss) s) (omega (arith, near)) (last A B h1) (last C D h2),
         )
     typed_members c d d' built (Method x (Does i params gives all arrow) ∷ rest) ss s near h1 h2 =
         let r : Routine = Does i params gives all arrow in
-        let A = member_failure names k.entries k.classes c d' built (Method x r) in
-        let B = members_failure names k.entries k.classes c (d' + 1) (built || false) rest in
+        let A = member_failure tables.names names k.entries k.classes c d' built (Method x r) in
+        let B = members_failure tables.names names k.entries k.classes c (d' + 1) (built || false) rest in
         let C = body_failure tables names k (this.Object c) (kind_at k d) r in
         let D = members_nodes tables names k c (suc d) rest in
         let u1 = unless (not (is_second k.entries d' (o.Class c) x)) TwiceNamed i in
@@ -208,8 +208,8 @@ module _ (names : Naming) (k : Known) (tables : Tables) where
           typed_members c (suc d) (d' + 1) (built || false) rest ss (suffix_one sources d src (member_sources names c rest ++ ss) s) (omega (arith, near)) (last A B h1) (last C D h2),
         )
     typed_members c d d' built (Constructor r ∷ rest) ss s near h1 h2 =
-        let A = member_failure names k.entries k.classes c d' built (Constructor r) in
-        let B = members_failure names k.entries k.classes c (d' + 0) (built || true) rest in
+        let A = member_failure tables.names names k.entries k.classes c d' built (Constructor r) in
+        let B = members_failure tables.names names k.entries k.classes c (d' + 0) (built || true) rest in
         let C = constructor_failure tables names k (this.Object c) (base_of k.classes c) r in
         typed_members c d (d' + 0) (built || true) rest ss s near (last A B h1) (last C (members_nodes tables names k c d rest) h2)
 
@@ -241,7 +241,7 @@ module _ (names : Naming) (k : Known) (tables : Tables) where
     typed_main d (Empty i) ss s near h = tt
 
     typed_item : (c d : ℕ) (i : TopLevel) (ss : List Source) → Suffix sources d (item_sources names c i ++ ss) → k.library ≤ d
-        → item_failure names k.entries k.classes c d i ≡ None → item_nodes tables names k c d i ≡ None → EachIs TypedAs d (item_entries names c i)
+        → item_failure tables.names names k.entries k.classes c d i ≡ None → item_nodes tables names k c d i ≡ None → EachIs TypedAs d (item_entries names c i)
     typed_item c d (Class at x base base_at members) ss s near h1 h2 =
         (tt, typed_members c (suc d) (d + 1) false members ss (suffix_one sources d (Stated None) (member_sources names c members ++ ss) s) (omega (arith, near)) h1 h2)
     typed_item c d (Function x (Does i params gives all arrow)) ss s near h1 h2 =
@@ -250,14 +250,14 @@ module _ (names : Naming) (k : Known) (tables : Tables) where
         (result_known this.Nowhere d i params gives all arrow (suffix_head sources d src ss s) near (last pf (written_failure names i gives) h1) h2, tt)
     typed_item c d (Main a) ss s near h1 h2 = typed_main d a ss s near h2
 
-    pub typed_text : (c d : ℕ) (text : Program) → Suffix sources d (sources_from names c text) → k.library ≤ d → headings_failure names k.entries k.classes c d text ≡ None
+    pub typed_text : (c d : ℕ) (text : Program) → Suffix sources d (sources_from names c text) → k.library ≤ d → headings_failure tables.names names k.entries k.classes c d text ≡ None
         → nodes_failure tables names k c d text ≡ None → EachIs TypedAs d (entries_from names c text)
     typed_text c d [] s near h1 h2 = tt
     typed_text c d (i ∷ rest) s near h1 h2 =
         let es = item_entries names c i in
         let later = sources_from names (c + classes_in i) rest in
-        let A = item_failure names k.entries k.classes c d i in
-        let B = headings_failure names k.entries k.classes (c + classes_in i) (d + length es) rest in
+        let A = item_failure tables.names names k.entries k.classes c d i in
+        let B = headings_failure tables.names names k.entries k.classes (c + classes_in i) (d + length es) rest in
         let C = item_nodes tables names k c d i in
         let D = nodes_failure tables names k (c + classes_in i) (d + length es) rest in
         let s' : Suffix sources (d + length es) later = suffix_at sources (d + length (item_sources names c i)) (d + length es) later (ap (λ (j : ℕ). d + j) (item_sourced names c i)) (suffix_step sources d (item_sources names c i) later s) in

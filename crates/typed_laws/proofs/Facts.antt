@@ -1,6 +1,6 @@
 -- What a text without a failure says of its declarations.
 use Rattle.std.proofs.Common.{◌≡◌, ℕ, zero, suc, ◌+◌, ◌<◌, ◌==◌, ◌||◌, refl, sym, ap, ◌∙◌, subst, Bool, true, false, Option, Some, None, List, [], ◌∷◌, ◌++◌, length, arith}
-use Rattle.std.specs.Prelude.{slice_get, unwrap_or, not, is_some}
+use Rattle.std.specs.Prelude.{slice_get, unwrap_or, not, ◌&&◌, is_some, codes}
 use Rattle.sts_base.specs.declared.refused.Code.TheVariants.{Mismatch, TwiceNamed, ClassCycle, NeedsType}
 use Rattle.sts_syntax.specs.Trees.{Parameter, Statement, Block, Let, IfOnly, IfElse, While, DoWhile, For, ForOf, Return, Break, Continue, Plain, Empty, Declare, Declarations, ended, next, Routine, Does}
 use Rattle.sts_syntax.specs.Programs.{ClassMember, Field, Method, Constructor, TopLevel, Class, Function, Main, Program}
@@ -15,10 +15,10 @@ use Rattle.sts_scope.specs.declared.known.Known.{Known}
 use Rattle.sts_scope.specs.Kinds.{text, nothing}
 use Rattle.sts_scope.specs.Failures.{Failure, ◌then◌, unless}
 use Rattle.sts_scope.specs.Entries.{Naming, written_kind, parameter_kinds, class_names, class_number, classes_in, member_entries, item_entries, main_entries, global_entries, entries_from, heads_of, class_head, maker_takes, base_number}
-use Rattle.sts_scope.specs.Headings.{written_failure, routine_failure, is_typed, member_failure, members_failure, item_failure, headings_failure}
+use Rattle.sts_scope.specs.Headings.{written_failure, routine_failure, is_typed, is_constructor, member_failure, members_failure, item_failure, headings_failure}
 use Rattle.sts_scope.specs.Bases.{above, is_endless, chain_failure, chains_failure}
 use Rattle.sts_scope.specs.Lookup.{is_second, inherited, inherits_field, base_of}
-use Rattle.sts_scope.specs.Rules.{takes_at, maker_takes_of}
+use Rattle.sts_scope.specs.Rules.{takes_at, maker_takes_of, is_spelled}
 use Rattle.sts_scope.specs.Rules as rules
 use Rattle.type_derive.specs.Passes.{agrees, overrides_failure, item_overrides, all_overrides}
 use Rattle.typed_laws.proofs.Stands.{IsProper, EachProper}
@@ -85,30 +85,31 @@ module _ (Q : DeclarationKind → Owner → ℕ → ℕ → Type 0) where
 
 module _ (names : Naming) (k : Known) where
   -- headings
-  abbrev SaneHere : ℕ → ℕ → TopLevel → Type 0
-  SaneHere c d i = (item_failure names k.entries k.classes c d i ≡ None) × ((classes_in i ≡ 1) → c < length k.classes)
+  abbrev SaneHere : List (List ℕ) → ℕ → ℕ → TopLevel → Type 0
+  SaneHere spellings c d i = (item_failure spellings names k.entries k.classes c d i ≡ None) × ((classes_in i ≡ 1) → c < length k.classes)
 
-  sane_members : (c d : ℕ) (built : Bool) (members : List ClassMember) → c < length k.classes → members_failure names k.entries k.classes c d built members ≡ None → EachIs (SaneAs k) d (member_entries names c members)
-  sane_members c d built [] near h = tt
-  sane_members c d built (Field (Declare i x shape first') ∷ rest) near h =
+  sane_members : (spellings : List (List ℕ)) (c d : ℕ) (built : Bool) (members : List ClassMember) → c < length k.classes → members_failure spellings names k.entries k.classes c d built members ≡ None → EachIs (SaneAs k) d (member_entries names c members)
+  sane_members spellings c d built [] near h = tt
+  sane_members spellings c d built (Field (Declare i x shape first') ∷ rest) near h =
       let m : ClassMember = Field (Declare i x shape first') in
-      let A = member_failure names k.entries k.classes c d built m in
-      let B = members_failure names k.entries k.classes c (d + 1) (built || false) rest in
+      let A = member_failure spellings names k.entries k.classes c d built m in
+      let B = members_failure spellings names k.entries k.classes c (d + 1) (built || is_constructor spellings m) rest in
+      let u0 = unless (not (built && is_spelled spellings x (codes "constructor"))) TwiceNamed i in
       let u1 = unless (not (is_second k.entries d (o.Class c) x)) TwiceNamed i in
       let u2 = unless (not (is_some (inherited k.entries k.classes c x))) TwiceNamed i in
       let u3 : Option Failure = unless (is_typed shape first') NeedsType i then written_failure names i shape in
-      let hA : A ≡ None = first A B h in
+      let hA : (u1 then u2 then u3) ≡ None = last u0 (u1 then u2 then u3) (first A B h) in
       let h1 : u1 ≡ None = first u1 (u2 then u3) hA in
       let h2 : u2 ≡ None = first u2 u3 (last u1 (u2 then u3) hA) in
       let once = not_true (is_second k.entries d (o.Class c) x) (unless_true (not (is_second k.entries d (o.Class c) x)) TwiceNamed i h1) in
       let alone = not_some (inherited k.entries k.classes c x) (not_true (is_some (inherited k.entries k.classes c x)) (unless_true (not (is_some (inherited k.entries k.classes c x))) TwiceNamed i h2)) in
       let z : d + 1 ≡ suc d = omega arith in
-      ((once, alone, near), subst (λ (j : ℕ). EachIs (SaneAs k) j (member_entries names c rest)) z (sane_members c (d + 1) (built || false) rest near (last A B h)))
-  sane_members c d built (Method x (Does i params gives all arrow) ∷ rest) near h =
+      ((once, alone, near), subst (λ (j : ℕ). EachIs (SaneAs k) j (member_entries names c rest)) z (sane_members spellings c (d + 1) (built || is_constructor spellings m) rest near (last A B h)))
+  sane_members spellings c d built (Method x (Does i params gives all arrow) ∷ rest) near h =
       let r : Routine = Does i params gives all arrow in
       let m : ClassMember = Method x r in
-      let A = member_failure names k.entries k.classes c d built m in
-      let B = members_failure names k.entries k.classes c (d + 1) (built || false) rest in
+      let A = member_failure spellings names k.entries k.classes c d built m in
+      let B = members_failure spellings names k.entries k.classes c (d + 1) (built || false) rest in
       let u1 = unless (not (is_second k.entries d (o.Class c) x)) TwiceNamed i in
       let u2 = unless (not (inherits_field k.entries k.classes c x)) TwiceNamed i in
       let u3 : Option Failure = routine_failure names r in
@@ -118,42 +119,42 @@ module _ (names : Naming) (k : Known) where
       let once = not_true (is_second k.entries d (o.Class c) x) (unless_true (not (is_second k.entries d (o.Class c) x)) TwiceNamed i h1) in
       let free = not_true (inherits_field k.entries k.classes c x) (unless_true (not (inherits_field k.entries k.classes c x)) TwiceNamed i h2) in
       let z : d + 1 ≡ suc d = omega arith in
-      ((once, free, near), subst (λ (j : ℕ). EachIs (SaneAs k) j (member_entries names c rest)) z (sane_members c (d + 1) (built || false) rest near (last A B h)))
-  sane_members c d built (Constructor r ∷ rest) near h =
-      let A = member_failure names k.entries k.classes c d built (Constructor r) in
-      let B = members_failure names k.entries k.classes c (d + 0) (built || true) rest in
+      ((once, free, near), subst (λ (j : ℕ). EachIs (SaneAs k) j (member_entries names c rest)) z (sane_members spellings c (d + 1) (built || false) rest near (last A B h)))
+  sane_members spellings c d built (Constructor r ∷ rest) near h =
+      let A = member_failure spellings names k.entries k.classes c d built (Constructor r) in
+      let B = members_failure spellings names k.entries k.classes c (d + 0) (built || true) rest in
       let z : d + 0 ≡ d = omega arith in
-      subst (λ (j : ℕ). EachIs (SaneAs k) j (member_entries names c rest)) z (sane_members c (d + 0) (built || true) rest near (last A B h))
+      subst (λ (j : ℕ). EachIs (SaneAs k) j (member_entries names c rest)) z (sane_members spellings c (d + 0) (built || true) rest near (last A B h))
 
-  sane_class : (c d at x : ℕ) (base : Option ℕ) (base_at : ℕ) (members : List ClassMember) → SaneHere c d (Class at x base base_at members) → EachIs (SaneAs k) d (item_entries names c (Class at x base base_at members))
-  sane_class c d at x base base_at members h =
+  sane_class : (spellings : List (List ℕ)) (c d at x : ℕ) (base : Option ℕ) (base_at : ℕ) (members : List ClassMember) → SaneHere spellings c d (Class at x base base_at members) → EachIs (SaneAs k) d (item_entries names c (Class at x base base_at members))
+  sane_class spellings c d at x base base_at members h =
       let near : c < length k.classes = h.1 refl in
       let z : d + 1 ≡ suc d = omega arith in
-      (near, subst (λ (j : ℕ). EachIs (SaneAs k) j (member_entries names c members)) z (sane_members c (d + 1) false members near h.0))
+      (near, subst (λ (j : ℕ). EachIs (SaneAs k) j (member_entries names c members)) z (sane_members spellings c (d + 1) false members near h.0))
 
-  sane_along : (c d : ℕ) (text : Program) → Suffix k.classes c (heads_of names text) → headings_failure names k.entries k.classes c d text ≡ None → Along (SaneAs k) (λ x d. tt) (λ fixed x d. tt) names SaneHere sane_class c d text
-  sane_along c d [] s h = tt
-  sane_along c d (Class at x base base_at members ∷ rest) s h =
+  sane_along : (spellings : List (List ℕ)) (c d : ℕ) (text : Program) → Suffix k.classes c (heads_of names text) → headings_failure spellings names k.entries k.classes c d text ≡ None → Along (SaneAs k) (λ x d. tt) (λ fixed x d. tt) names (SaneHere spellings) (sane_class spellings) c d text
+  sane_along spellings c d [] s h = tt
+  sane_along spellings c d (Class at x base base_at members ∷ rest) s h =
       let i : TopLevel = Class at x base base_at members in
-      let A = item_failure names k.entries k.classes c d i in
-      let B = headings_failure names k.entries k.classes (c + classes_in i) (d + length (item_entries names c i)) rest in
+      let A = item_failure spellings names k.entries k.classes c d i in
+      let B = headings_failure spellings names k.entries k.classes (c + classes_in i) (d + length (item_entries names c i)) rest in
       let head : ClassHead = class_head names at base base_at members in (
         (first A B h, λ q. get_within k.classes c head (suffix_head k.classes c head (heads_of names rest) s)),
-        sane_along (c + 1) (d + length (item_entries names c i)) rest (suffix_step k.classes c (head ∷ []) (heads_of names rest) s) (last A B h),
+        sane_along spellings (c + 1) (d + length (item_entries names c i)) rest (suffix_step k.classes c (head ∷ []) (heads_of names rest) s) (last A B h),
       )
-  sane_along c d (Function x r ∷ rest) s h =
+  sane_along spellings c d (Function x r ∷ rest) s h =
       let i : TopLevel = Function x r in
-      let A = item_failure names k.entries k.classes c d i in
-      let B = headings_failure names k.entries k.classes (c + classes_in i) (d + length (item_entries names c i)) rest in
-      ((first A B h, λ q. cc), sane_along (c + 0) (d + length (item_entries names c i)) rest (suffix_at k.classes c (c + 0) (heads_of names rest) (let z : c ≡ c + 0 = omega arith in z) s) (last A B h))
-  sane_along c d (Main a ∷ rest) s h =
+      let A = item_failure spellings names k.entries k.classes c d i in
+      let B = headings_failure spellings names k.entries k.classes (c + classes_in i) (d + length (item_entries names c i)) rest in
+      ((first A B h, λ q. cc), sane_along spellings (c + 0) (d + length (item_entries names c i)) rest (suffix_at k.classes c (c + 0) (heads_of names rest) (let z : c ≡ c + 0 = omega arith in z) s) (last A B h))
+  sane_along spellings c d (Main a ∷ rest) s h =
       let i : TopLevel = Main a in
-      let A = item_failure names k.entries k.classes c d i in
-      let B = headings_failure names k.entries k.classes (c + classes_in i) (d + length (item_entries names c i)) rest in
-      ((first A B h, λ q. cc), sane_along (c + 0) (d + length (item_entries names c i)) rest (suffix_at k.classes c (c + 0) (heads_of names rest) (let z : c ≡ c + 0 = omega arith in z) s) (last A B h))
+      let A = item_failure spellings names k.entries k.classes c d i in
+      let B = headings_failure spellings names k.entries k.classes (c + classes_in i) (d + length (item_entries names c i)) rest in
+      ((first A B h, λ q. cc), sane_along spellings (c + 0) (d + length (item_entries names c i)) rest (suffix_at k.classes c (c + 0) (heads_of names rest) (let z : c ≡ c + 0 = omega arith in z) s) (last A B h))
 
-  pub sane_text : (c d : ℕ) (text : Program) → Suffix k.classes c (heads_of names text) → headings_failure names k.entries k.classes c d text ≡ None → EachIs (SaneAs k) d (entries_from names c text)
-  sane_text c d text s h = text_each (SaneAs k) (λ x d. tt) (λ fixed x d. tt) names SaneHere sane_class c d text (sane_along c d text s h)
+  pub sane_text : (spellings : List (List ℕ)) (c d : ℕ) (text : Program) → Suffix k.classes c (heads_of names text) → headings_failure spellings names k.entries k.classes c d text ≡ None → EachIs (SaneAs k) d (entries_from names c text)
+  sane_text spellings c d text s h = text_each (SaneAs k) (λ x d. tt) (λ fixed x d. tt) names (SaneHere spellings) (sane_class spellings) c d text (sane_along spellings c d text s h)
 
   -- overriding methods
   abbrev pub AgreesAs : DeclarationKind → Owner → ℕ → ℕ → Type 0

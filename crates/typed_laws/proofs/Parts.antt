@@ -221,7 +221,7 @@ module _ (tables : Tables) (names : Naming) (k : Known) (numbers : Numbering) (P
       pub makers_are : Suffix numbers.makers c (makers_from n text)
       pub marks_are : Suffix marks n (marks_from c text)
       pub behind : k.library ≤ d
-      pub headings : headings_failure names k.entries k.classes c d text ≡ None
+      pub headings : headings_failure tables.names names k.entries k.classes c d text ≡ None
       pub nodes : nodes_failure tables names k c d text ≡ None
       pub formed : IsFormedProgram text
       pub room : n + all_routines text ≤ P.main
@@ -252,7 +252,7 @@ module _ (tables : Tables) (names : Naming) (k : Known) (numbers : Numbering) (P
           makers_are = suffix_at numbers.makers (c + length (item_makers n i)) c' (makers_from n' rest) (ap (λ (j : ℕ). c + j) (makers_many' n i)) (suffix_step numbers.makers c (item_makers n i) (makers_from n' rest) t'.makers_are);
           marks_are = suffix_at marks (n + length (item_marks c i)) n' (marks_from c' rest) (ap (λ (j : ℕ). n + j) (item_length c i)) (suffix_step marks n (item_marks c i) (marks_from c' rest) t'.marks_are);
           behind = omega (arith, near);
-          headings = last (item_failure names k.entries k.classes c d i) (headings_failure names k.entries k.classes c' d' rest) t'.headings;
+          headings = last (item_failure tables.names names k.entries k.classes c d i) (headings_failure tables.names names k.entries k.classes c' d' rest) t'.headings;
           nodes = last (item_nodes tables names k c d i) (nodes_failure tables names k c' d' rest) t'.nodes;
           formed = t'.formed.1;
           room = omega (arith, room_so);
@@ -296,7 +296,7 @@ module _ (tables : Tables) (names : Naming) (k : Known) (numbers : Numbering) (P
           placed = members_placed tables names k numbers P c n (suc d) members placed;
         } in
         class_sound tables names k numbers P made sources solved marks marked c near_c (λ b q. made.chained.bases c b q) n (suc d) (d + 1) members tail walk
-        (first (item_failure names k.entries k.classes c d i) (headings_failure names k.entries k.classes (c + classes_in i) (d + length (item_entries names c i)) rest) t'.headings)
+        (first (item_failure tables.names names k.entries k.classes c d i) (headings_failure tables.names names k.entries k.classes (c + classes_in i) (d + length (item_entries names c i)) rest) t'.headings)
         (suffix_or numbers.makers c (maker_from n n members) (makers_from (n + item_routines i) rest) 0 t'.makers_are) placed
         (λ b q one. takes_passed k.classes l c b head at_c (unwritten_takes members one) q many (ap (λ (j : ℕ). above k.classes j c) (sym many) ∙ made.chained.ends c near_c))
         t'.marks_are (omega (arith, room_so))

@@ -130,7 +130,7 @@ module _ (tables : Tables) (library text : Program) (kinds : List (Option Static
   pass_chains = chains_failure k.classes c0 (drop c0 k.classes)
 
   abbrev pass_headings : Option Failure
-  pass_headings = headings_failure names k.entries k.classes c0 k.library text
+  pass_headings = headings_failure tables.names names k.entries k.classes c0 k.library text
 
   abbrev pass_overrides : Option Failure
   pass_overrides = all_overrides k names c0 k.library text
@@ -175,7 +175,7 @@ module _ (tables : Tables) (library text : Program) (kinds : List (Option Static
       let (before', at', is') = text_entries in
       subst (λ (es : List Entry). EachIs (SaneAs k) 0 es) (sym is')
       (each_is_both (SaneAs k) 0 (entries_from names 0 library) (entries_from names c0 text) (library_each names (SaneAs k) (λ x d. tt) 0 0 library functions)
-      (subst (λ (j : ℕ). EachIs (SaneAs k) j (entries_from names c0 text)) (let z : k.library ≡ 0 + length (entries_from names 0 library) = omega arith in z) (sane_text names k c0 k.library text text_heads heads_none)))
+      (subst (λ (j : ℕ). EachIs (SaneAs k) j (entries_from names c0 text)) (let z : k.library ≡ 0 + length (entries_from names 0 library) = omega arith in z) (sane_text names k tables.names c0 k.library text text_heads heads_none)))
 
   agree_all : EachIs (AgreesAs names k) 0 k.entries
   agree_all =

@@ -233,7 +233,7 @@ module _ (tables : Tables) (library text : Program) (kinds : List (Option Static
     c0_is : c0 ≡ 0
     c0_is = of_text.c0_is tables library text kinds ok.functions no_failure
 
-    heads_none : headings_failure names k.entries k.classes c0 k.library text ≡ None
+    heads_none : headings_failure tables.names names k.entries k.classes c0 k.library text ≡ None
     heads_none = of_text.heads_none tables library text kinds ok.functions no_failure
 
     nodes_none : nodes_failure tables names k c0 k.library text ≡ None

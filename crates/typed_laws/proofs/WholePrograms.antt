@@ -19,7 +19,7 @@ use Rattle.sts_scope.specs.declared.known.This.TheVariants as this
 use Rattle.sts_scope.specs.Kinds.{nothing}
 use Rattle.sts_scope.specs.Failures.{◌then◌, unless, own}
 use Rattle.sts_scope.specs.Entries.{Naming, kind_of, written_kind, classes_in, item_entries}
-use Rattle.sts_scope.specs.Headings.{written_failure, takes_name, parameters_failure, member_failure, members_failure, item_failure, headings_failure}
+use Rattle.sts_scope.specs.Headings.{written_failure, takes_name, parameters_failure, is_constructor, member_failure, members_failure, item_failure, headings_failure}
 use Rattle.sts_scope.specs.Lookup.{is_second, base_of, inherited, inherits_field, sort_of, is_field}
 use Rattle.sts_scope.specs.Numbers.{Numbering, numbering, is_method, names_from}
 use Rattle.sts_scope.specs.Places.{NameScope}
@@ -65,18 +65,18 @@ module _ (tables : Tables) (names : Naming) (k : Known) where
       let none : Numbering = record { routines = []; makers = [] } in
       begins_super tables names k none all i b (within (parameter_locals names params) self (Some nothing) false) h
 
-  whole_members : (c d d' : ℕ) (built : Bool) (members : List ClassMember) → members_failure names k.entries k.classes c d' built members ≡ None
+  whole_members : (c d d' : ℕ) (built : Bool) (members : List ClassMember) → members_failure tables.names names k.entries k.classes c d' built members ≡ None
       → members_nodes tables names k c d members ≡ None → AreWholeMembers names k c members
   whole_members c d d' built [] h g = tt
   whole_members c d d' built (Field a ∷ rest) h g =
-      let A = member_failure names k.entries k.classes c d' built (Field a) in
-      let B = members_failure names k.entries k.classes c (d' + 1) (built || false) rest in
+      let A = member_failure tables.names names k.entries k.classes c d' built (Field a) in
+      let B = members_failure tables.names names k.entries k.classes c (d' + 1) (built || is_constructor tables.names (Field a)) rest in
       let C = outside_failure tables names k (this.Object c) a in
       let D = members_nodes tables names k c (suc d) rest in
-      whole_members c (suc d) (d' + 1) (built || false) rest (last A B h) (last C D g)
+      whole_members c (suc d) (d' + 1) (built || is_constructor tables.names (Field a)) rest (last A B h) (last C D g)
   whole_members c d d' built (Method x (Does i params gives all arrow) ∷ rest) h g =
-      let A = member_failure names k.entries k.classes c d' built (Method x (Does i params gives all arrow)) in
-      let B = members_failure names k.entries k.classes c (d' + 1) (built || false) rest in
+      let A = member_failure tables.names names k.entries k.classes c d' built (Method x (Does i params gives all arrow)) in
+      let B = members_failure tables.names names k.entries k.classes c (d' + 1) (built || false) rest in
       let C = body_failure tables names k (this.Object c) (kind_at k d) (Does i params gives all arrow) in
       let D = members_nodes tables names k c (suc d) rest in
       let E = unless (not (is_second k.entries d' (o.Class c) x)) TwiceNamed i in
@@ -85,8 +85,8 @@ module _ (tables : Tables) (names : Naming) (k : Known) where
       let H = written_failure names i gives in
       (parameters_typed params 0 params (first G H (last F (G then H) (last E (F then G then H) (first A B h)))), whole_members c (suc d) (d' + 1) (built || false) rest (last A B h) (last C D g))
   whole_members c d d' built (Constructor (Does i params gives all arrow) ∷ rest) h g =
-      let A = member_failure names k.entries k.classes c d' built (Constructor (Does i params gives all arrow)) in
-      let B = members_failure names k.entries k.classes c (d' + 0) (built || true) rest in
+      let A = member_failure tables.names names k.entries k.classes c d' built (Constructor (Does i params gives all arrow)) in
+      let B = members_failure tables.names names k.entries k.classes c (d' + 0) (built || true) rest in
       let C = constructor_failure tables names k (this.Object c) (base_of k.classes c) (Does i params gives all arrow) in
       let D = members_nodes tables names k c d rest in
       let E = unless (not built) TwiceNamed i in
@@ -97,18 +97,18 @@ module _ (tables : Tables) (names : Naming) (k : Known) where
         whole_members c d (d' + 0) (built || true) rest (last A B h) (last C D g),
       )
 
-  whole_item : (c d : ℕ) (i : TopLevel) → item_failure names k.entries k.classes c d i ≡ None → item_nodes tables names k c d i ≡ None → IsWholeItem names k c i
+  whole_item : (c d : ℕ) (i : TopLevel) → item_failure tables.names names k.entries k.classes c d i ≡ None → item_nodes tables names k c d i ≡ None → IsWholeItem names k c i
   whole_item c d (Class at x base base_at members) h g = whole_members c (suc d) (d + 1) false members h g
   whole_item c d (Function x (Does i params gives all arrow)) h g = parameters_typed params 0 params (first (parameters_failure names params 0 params) (written_failure names i gives) h)
   whole_item c d (Main a) h g = tt
 
-  whole_text : (c d : ℕ) (text : Program) → headings_failure names k.entries k.classes c d text ≡ None → nodes_failure tables names k c d text ≡ None → IsWholeText names k c text
+  whole_text : (c d : ℕ) (text : Program) → headings_failure tables.names names k.entries k.classes c d text ≡ None → nodes_failure tables names k c d text ≡ None → IsWholeText names k c text
   whole_text c d [] h g = tt
   whole_text c d (i ∷ rest) h g =
       let c' = c + classes_in i in
       let d' = d + length (item_entries names c i) in
-      let A = item_failure names k.entries k.classes c d i in
-      let B = headings_failure names k.entries k.classes c' d' rest in
+      let A = item_failure tables.names names k.entries k.classes c d i in
+      let B = headings_failure tables.names names k.entries k.classes c' d' rest in
       let C = item_nodes tables names k c d i in
       let D = nodes_failure tables names k c' d' rest in
       (whole_item c d i (first A B h) (first C D g), whole_text c' d' rest (last A B h) (last C D g))

@@ -1,6 +1,6 @@
 -- Each failure of the passes over a text is at a place of the text's tree, or at 0.
 use Rattle.std.proofs.Common.{◌≡◌, ℕ, suc, ◌+◌, Bool, false, not, ◌||◌, Some, None, List, [], ◌∷◌, ◌++◌, length, drop, take, refl, sym, ap, subst, ◌∙◌, append_assoc, length-append}
-use Rattle.std.specs.Prelude.{Option, is_some}
+use Rattle.std.specs.Prelude.{Option, is_some, ◌&&◌, codes}
 use Rattle.std.proofs.Math.Seq.{drop-append_seam}
 use Rattle.sts_base.specs.declared.tables.Tables.{Tables}
 use Rattle.sts_base.specs.declared.refused.Code.TheVariants.{UnknownName, TwiceNamed, NeedsType, ClassCycle, Mismatch, OverLimit}
@@ -25,7 +25,7 @@ use Rattle.sts_scope.specs.Globals.{is_dollar, name_failure, names_failure}
 use Rattle.sts_scope.specs.Bases.{base_failure, bases_failure, is_endless, chain_failure, chains_failure}
 use Rattle.sts_scope.specs.Headings.{written_failure, takes_name, parameters_failure, routine_failure, routine_at, is_typed, is_constructor, field_failure, method_failure, member_failure, members_failure, item_failure, headings_failure}
 use Rattle.sts_scope.specs.Places.{NameScope, outside}
-use Rattle.sts_scope.specs.Rules.{kind_at, maker_takes_of, all_go}
+use Rattle.sts_scope.specs.Rules.{kind_at, maker_takes_of, all_go, is_spelled}
 use Rattle.sts_scope.specs.Scopes.{all_names, all_entries, all_classes, library_entries, library_classes, heading_refusal}
 use Rattle.type_derive.specs.Typing.{◌>>=◌, types_of}
 use Rattle.type_derive.specs.Returns.{parameter_locals, within}
@@ -154,44 +154,48 @@ module _ (P : ℕ → Type 0) where
   routine_in names (Does at params gives all arrow) h =
       then_in (parameters_failure names params 0 params) (written_failure names at gives) (parameters_in names params 0 params h.1) (written_in names at gives h.0 h.2)
 
-  module _ (names : Naming) (entries : List Entry) (classes : List ClassHead) where
-    field_in : (c d : ℕ) (a : Declaration) → DeclarationAt P a → In (field_failure names entries classes c d a)
-    field_in c d (Declare at x shape first) h =
-        then_in (unless (not (is_second entries d (o.Class c) x)) TwiceNamed at)
+  module _ (spellings : List (List ℕ)) (names : Naming) (entries : List Entry) (classes : List ClassHead) where
+    field_in : (c d : ℕ) (made : Bool) (a : Declaration) → DeclarationAt P a → In (field_failure spellings names entries classes c d made a)
+    field_in c d made (Declare at x shape first) h =
+        then_in (unless (not (made && is_spelled spellings x (codes "constructor"))) TwiceNamed at)
+        (unless (not (is_second entries d (o.Class c) x)) TwiceNamed at then unless (not (is_some (inherited entries classes c x))) TwiceNamed at
+        then unless (is_typed shape first) NeedsType at then written_failure names at shape)
+        (unless_in (not (made && is_spelled spellings x (codes "constructor"))) TwiceNamed at h.0)
+        (then_in (unless (not (is_second entries d (o.Class c) x)) TwiceNamed at)
         (unless (not (is_some (inherited entries classes c x))) TwiceNamed at then unless (is_typed shape first) NeedsType at then written_failure names at shape)
         (unless_in (not (is_second entries d (o.Class c) x)) TwiceNamed at h.0)
         (then_in (unless (not (is_some (inherited entries classes c x))) TwiceNamed at) (unless (is_typed shape first) NeedsType at then written_failure names at shape)
         (unless_in (not (is_some (inherited entries classes c x))) TwiceNamed at h.0)
-        (then_in (unless (is_typed shape first) NeedsType at) (written_failure names at shape) (unless_in (is_typed shape first) NeedsType at h.0) (written_in names at shape h.0 h.1)))
+        (then_in (unless (is_typed shape first) NeedsType at) (written_failure names at shape) (unless_in (is_typed shape first) NeedsType at h.0) (written_in names at shape h.0 h.1))))
 
-    method_in : (c d x : ℕ) (r : Routine) → RoutineAt P r → In (method_failure names entries classes c d x r)
+    method_in : (c d x : ℕ) (r : Routine) → RoutineAt P r → In (method_failure spellings names entries classes c d x r)
     method_in c d x r h =
         then_in (unless (not (is_second entries d (o.Class c) x)) TwiceNamed (routine_at r)) (unless (not (inherits_field entries classes c x)) TwiceNamed (routine_at r) then routine_failure names r)
         (unless_in (not (is_second entries d (o.Class c) x)) TwiceNamed (routine_at r) (routine_at_in r h))
         (then_in (unless (not (inherits_field entries classes c x)) TwiceNamed (routine_at r)) (routine_failure names r)
         (unless_in (not (inherits_field entries classes c x)) TwiceNamed (routine_at r) (routine_at_in r h)) (routine_in names r h))
 
-    member_in : (c d : ℕ) (made : Bool) (m : ClassMember) → MemberAt P m → In (member_failure names entries classes c d made m)
-    member_in c d made (Field a) h = field_in c d a h
+    member_in : (c d : ℕ) (made : Bool) (m : ClassMember) → MemberAt P m → In (member_failure spellings names entries classes c d made m)
+    member_in c d made (Field a) h = field_in c d made a h
     member_in c d made (Method x r) h = method_in c d x r h
     member_in c d made (Constructor r) h =
         then_in (unless (not made) TwiceNamed (routine_at r)) (routine_failure names r) (unless_in (not made) TwiceNamed (routine_at r) (routine_at_in r h)) (routine_in names r h)
 
-    members_in : (c d : ℕ) (made : Bool) (ms : List ClassMember) → MembersAt P ms → In (members_failure names entries classes c d made ms)
+    members_in : (c d : ℕ) (made : Bool) (ms : List ClassMember) → MembersAt P ms → In (members_failure spellings names entries classes c d made ms)
     members_in c d made [] h = none_in
     members_in c d made (m ∷ rest) h =
-        then_in (member_failure names entries classes c d made m) (members_failure names entries classes c (d + length (member_entry names c m)) (made || is_constructor m) rest)
-        (member_in c d made m h.0) (members_in c (d + length (member_entry names c m)) (made || is_constructor m) rest h.1)
+        then_in (member_failure spellings names entries classes c d made m) (members_failure spellings names entries classes c (d + length (member_entry names c m)) (made || is_constructor spellings m) rest)
+        (member_in c d made m h.0) (members_in c (d + length (member_entry names c m)) (made || is_constructor spellings m) rest h.1)
 
-    item_in : (c d : ℕ) (i : TopLevel) → ItemAt P i → In (item_failure names entries classes c d i)
+    item_in : (c d : ℕ) (i : TopLevel) → ItemAt P i → In (item_failure spellings names entries classes c d i)
     item_in c d (Class at x base base_at members) h = members_in c (d + 1) false members h.2
     item_in c d (Function x r) h = routine_in names r h
     item_in c d (Main a) h = none_in
 
-    headings_in : (c d : ℕ) (text : Program) → ProgramAt P text → In (headings_failure names entries classes c d text)
+    headings_in : (c d : ℕ) (text : Program) → ProgramAt P text → In (headings_failure spellings names entries classes c d text)
     headings_in c d [] h = none_in
     headings_in c d (i ∷ rest) h =
-        then_in (item_failure names entries classes c d i) (headings_failure names entries classes (c + classes_in i) (d + length (item_entries names c i)) rest)
+        then_in (item_failure spellings names entries classes c d i) (headings_failure spellings names entries classes (c + classes_in i) (d + length (item_entries names c i)) rest)
         (item_in c d i h.0) (headings_in (c + classes_in i) (d + length (item_entries names c i)) rest h.1)
 
   heading_in : (spellings : List (List ℕ)) (library text : Program) → ProgramAt P text → In (heading_refusal spellings library text)
@@ -207,9 +211,9 @@ module _ (P : ℕ → Type 0) where
       let heads : drop c cs ≡ heads_of f text =
       ap (λ xs. drop c xs) (heads-append f library text) ∙ ap (λ n. drop n (heads_of f library ++ heads_of f text)) (sym (head_count f library)) ∙ drop-append_seam (heads_of f library) (heads_of f text) in
       let own_heads : HeadsAt (drop c cs) = subst HeadsAt (sym heads) (heads_at f text h) in
-      then_in (names_failure spellings es d (drop d es)) (bases_failure (drop c cs) then chains_failure cs c (drop c cs) then headings_failure f es cs c d text) (names_in spellings es d (drop d es) own_entries)
-      (then_in (bases_failure (drop c cs)) (chains_failure cs c (drop c cs) then headings_failure f es cs c d text) (bases_in (drop c cs) own_heads)
-      (then_in (chains_failure cs c (drop c cs)) (headings_failure f es cs c d text) (chains_in cs c (drop c cs) own_heads) (headings_in f es cs c d text h)))
+      then_in (names_failure spellings es d (drop d es)) (bases_failure (drop c cs) then chains_failure cs c (drop c cs) then headings_failure spellings f es cs c d text) (names_in spellings es d (drop d es) own_entries)
+      (then_in (bases_failure (drop c cs)) (chains_failure cs c (drop c cs) then headings_failure spellings f es cs c d text) (bases_in (drop c cs) own_heads)
+      (then_in (chains_failure cs c (drop c cs)) (headings_failure spellings f es cs c d text) (chains_in cs c (drop c cs) own_heads) (headings_in spellings f es cs c d text h)))
 
   -- overriding methods
   module _ (k : Known) where

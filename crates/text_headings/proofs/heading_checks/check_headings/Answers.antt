@@ -28,7 +28,7 @@ returns-in_err-d c =
     let names = value_at c.args.classes.now.values.items in
     let all = c.args.known.now.entries in
     let lt : c.loop-i.i < length c.args.items.now = omega arith in
-    let s = failures_step names all c.loop-i.d c.args.items.now c.loop-i.i c.index-items-i.result lt c.index-items-i.is (headings_failure names all c.args.known.now.classes) (item_failure names all c.args.known.now.classes) (λ m n y ys. refl) in
+    let s = failures_step names all c.loop-i.d c.args.items.now c.loop-i.i c.index-items-i.result lt c.index-items-i.is (headings_failure c.args.tables.now.names names all c.args.known.now.classes) (item_failure c.args.tables.now.names names all c.args.known.now.classes) (λ m n y ys. refl) in
     grind (arith, common_steps, s)
 
 pub loop-i-preserved : goal.loop-i-preserved
@@ -45,6 +45,6 @@ loop-i-preserved c =
     let stands = c.loop-i.invariant.stands in
     record {
       stands = rest_stands names all d items i x lt is stands n c.in_ok-d.ensures.next;
-      found = failures_kept names all d items i x lt is stands n c.in_ok-d.ensures.next (headings_failure names all c.args.known.now.classes) (item_failure names all c.args.known.now.classes) (λ m n y ys. refl)
-          (headings_failure names all c.args.known.now.classes (classes_before all c.args.first) c.args.first (top_levels items)) c.in_ok-d.ensures.found c.loop-i.invariant.found;
+      found = failures_kept names all d items i x lt is stands n c.in_ok-d.ensures.next (headings_failure c.args.tables.now.names names all c.args.known.now.classes) (item_failure c.args.tables.now.names names all c.args.known.now.classes) (λ m n y ys. refl)
+          (headings_failure c.args.tables.now.names names all c.args.known.now.classes (classes_before all c.args.first) c.args.first (top_levels items)) c.in_ok-d.ensures.found c.loop-i.invariant.found;
     }

@@ -8,6 +8,6 @@ use Rattle.text_headings.proofs.heading_checks.check_headings.Given as goal
 abbrev pub invariant-loop-i : goal.invariant-loop-i
 invariant-loop-i l = record {
   stands : IsTextAt (value_at l.classes.values.items) l.known.entries l.d (top_levels (drop l.i l.items));
-  found : heading.headings_failure (value_at l.classes.values.items) l.known.entries l.known.classes (classes_before l.known.entries l.d) l.d (top_levels (drop l.i l.items))
-      ≡ heading.headings_failure (value_at l.classes.values.items) l.known.entries l.known.classes (classes_before l.known.entries l.first) l.first (top_levels l.items);
+  found : heading.headings_failure l.tables.names (value_at l.classes.values.items) l.known.entries l.known.classes (classes_before l.known.entries l.d) l.d (top_levels (drop l.i l.items))
+      ≡ heading.headings_failure l.tables.names (value_at l.classes.values.items) l.known.entries l.known.classes (classes_before l.known.entries l.first) l.first (top_levels l.items);
 }

@@ -8,8 +8,8 @@ use Rattle.text_headings.proofs.heading_checks.check_members.Given as goal
 
 abbrev pub invariant-loop-i : goal.invariant-loop-i
 invariant-loop-i l = record {
-  found : heading.members_failure (value_at l.classes.values.items) l.known.entries l.known.classes l.c l.d l.made (class_members (drop l.i l.members))
-      ≡ heading.members_failure (value_at l.classes.values.items) l.known.entries l.known.classes l.c l.first false (class_members l.members);
+  found : heading.members_failure l.tables.names (value_at l.classes.values.items) l.known.entries l.known.classes l.c l.d l.made (class_members (drop l.i l.members))
+      ≡ heading.members_failure l.tables.names (value_at l.classes.values.items) l.known.entries l.known.classes l.c l.first false (class_members l.members);
   count : l.d + length (entry.member_entries (value_at l.classes.values.items) l.c (class_members (drop l.i l.members)))
       ≡ l.first + length (entry.member_entries (value_at l.classes.values.items) l.c (class_members l.members));
 }
