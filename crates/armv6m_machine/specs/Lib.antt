@@ -2,6 +2,7 @@ pub mod Answers
 pub mod Groups
 pub mod Transfers
 pub mod Steps
+pub mod Stretches
 pub mod Words
 pub mod Lending
 pub mod MachineLending

@@ -31,6 +31,15 @@ pub enum Turn {
     Fault(Fault, u32),
 }
 
+/// What came of instructions one after the other: how many were executed, PC before the last of them, and what that one
+/// came to.
+#[derive(Clone, Copy, Drop)]
+pub struct Stretch {
+    pub count: u32,
+    pub at: u32,
+    pub turn: Turn,
+}
+
 /// The number of a fault, from 1, as it is printed.
 pub fn number(fault: Fault) -> u8
     ensures { result ≡ number_of fault }

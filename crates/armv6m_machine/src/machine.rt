@@ -4,11 +4,13 @@ ghost use Rattle.std.specs.Bool.{OnTrue, OnFalse};
 ghost use Rattle.thumb_code.specs.Map.{flash_end, is_base};
 ghost use Rattle.thumb_code.specs.Machine.{State, step as step_of, reset as reset_of};
 ghost use Rattle.thumb_code.specs.Step.{fetched};
+ghost use Rattle.armv6m_machine.specs.declared.faults.Turn.TheVariants.{Went};
 ghost use Rattle.armv6m_machine.specs.Steps.{IsStep, IsFault, IsFetch, IsInstruction};
+ghost use Rattle.armv6m_machine.specs.Stretches.{Executes};
 ghost use Rattle.armv6m_machine.specs.Words.{word_at, begins_ram_word, with_word};
 
 use crate::execution::execute_at_pc;
-use crate::faults::{Fault, Turn};
+use crate::faults::{Fault, Stretch, Turn};
 use crate::flash::FLASH_END;
 use crate::mapped_memory::{MappedMemory, is_ram};
 use std::alloc::Global;
@@ -60,6 +62,30 @@ impl Machine {
             Ok(found) => execute_at_pc(found.0, &mut self.registers, &mut self.memory),
             Err((fault, at)) => Turn::Fault(fault, at),
         }
+    }
+
+    /// Executes instructions until one asks for a service or is a fault, but at most so many.
+    pub fn go(&mut self, most: u32) -> Stretch
+        requires some { 1 ≤ most }
+        ensures executes { Executes result.count result.at result.turn self.old self.new }
+        ensures few { result.count ≤ most }
+        ensures whole { result.turn ≡ Went → result.count ≡ most }
+        ensures flags { self.old.registers.flags < 16 → self.new.registers.flags < 16 }
+    {
+        for before in 0..most {
+            let at = self.registers().pc;
+            match self.step() {
+                Turn::Went if before + 1 < most => {}
+                turn => {
+                    return Stretch {
+                        count: before + 1,
+                        at,
+                        turn,
+                    };
+                }
+            }
+        }
+        unreachable!()
     }
 
     /// What stands at PC, and whether it is two halfwords; or a fault and its address.
