@@ -134,6 +134,15 @@ def operators():
     for places in ["r4 r5 s1", "i0 s0 r4", "s1 r6 s0"]:
         for op in range(1, 7):
             yield Function(f"1 1 1 0 : {places} : unary 1 {op} 0 ; return 1", pairs, [unary(op, it[0]) for it in pairs])
+    # a comparison that is joined with the branch after it; one whose result is read again; and one to whose branch a jump goes
+    for places in ["r4 r5 r6 r7", "i0 s0 s1 r5", "r6 i1 r4 s1"]:
+        for op in range(4, 10):
+            decided = [binary(op, *it) for it in pairs]
+            yield Function(f"2 1 1 0 : {places} : binary 2 {op} 0 1 ; branch 2 4 ; const 3 7 ; return 3 ; const 3 9 ; return 3", pairs, [9 if it else 7 for it in decided])
+            yield Function(f"2 1 1 0 : {places} : binary 2 {op} 0 1 ; branch 2 4 ; unary 2 1 2 ; return 2 ; unary 2 5 2 ; return 2", pairs, [2 * it for it in decided])
+            yield Function(f"2 1 1 0 : {places} : copy 2 0 ; jump 3 ; binary 2 {op} 0 1 ; branch 2 6 ; const 3 7 ; return 3 ; const 0 0 ; const 3 9 ; const 1 0 ; binary 2 {op} 0 1 ; "
+                           "branch 2 12 ; return 3 ; unary 3 4 3 ; return 3", pairs, [(~9 if binary(op, 0, 0) else 9) if it[0] else 7 for it in pairs])
+        yield Function(f"2 1 1 0 : {places} : unary 2 3 0 ; branch 2 4 ; const 3 7 ; return 3 ; const 3 9 ; return 3", pairs, [7 if it[0] else 9 for it in pairs])
     for number in [0, 1, 255, 256, -1, -256, 2**31 - 1, -(2**31), 65536, 12345678]:
         yield Function(f"2 0 1 0 : i0 i1 r4 : const 2 {number} ; return 2", pairs[:3], [number] * 3)
 

@@ -1,10 +1,11 @@
 -- What is known where a fiber stands at an op.
-use Rattle.std.specs.Prelude.{◌≡◌, ◌≢◌, ℕ, ◌+◌, ◌*◌, ◌<◌, List, length, Contains, Some, true, slice_get}
+use Rattle.std.specs.Prelude.{◌≡◌, ◌≢◌, ℕ, suc, ◌+◌, ◌*◌, ◌<◌, List, length, Contains, Some, None, true, slice_get}
 use Rattle.thumb_code.specs.Step.{fetched}
 use Rattle.bank_model.specs.Bank.{Bank}
 use Rattle.bank_model.specs.Fibers.{Fiber, Shared}
 use Rattle.thumb_layout.specs.declared.pieces.Piece.TheVariants.{Label}
 use Rattle.flat_ir.specs.declared.ops.Op.{Op}
+use Rattle.flat_ir.specs.declared.ops.Function.{Function}
 use Rattle.flat_ir.specs.declared.ops.FlatCode.{FlatCode}
 use Rattle.flat_ir.specs.Ops.{reads, writes, goes_on}
 use Rattle.flat_ir.specs.WellFormed.{temporaries, IsWellFormedFunction, IsOpWithin, NamesParts}
@@ -14,12 +15,17 @@ use Rattle.register_assign.specs.Sound.{place_of, IsWithin, ArePlacesSound}
 use Rattle.register_assign.specs.Unread.{is_unread}
 use Rattle.flat_meaning.specs.Frames.{FlatFrame}
 use Rattle.thumb_emit.specs.Emit.{op_pieces, function_pieces}
+use Rattle.thumb_emit.specs.Joined.{joined_by}
 use Rattle.thumb_emit.specs.InFlash.{Addresses}
 use Rattle.placed_frames.proofs.Laws.{View, At}
 use Rattle.emit_simulation.proofs.Laid.{Laid}
 use Rattle.emit_simulation.specs.Starts.{start}
 use Rattle.emit_simulation.proofs.Starts.{StandAt}
 use Rattle.emit_simulation.specs.Ties.{spots}
+
+-- an op goes on to the next one, which isn't a branch that is joined with it
+abbrev pub GoesOn : Function → ℕ → Op → Type 0
+GoesOn f at op = Contains (goes_on at op) (suc at) × (joined_by f (at + 1) ≡ None)
 
 -- what a fiber sees, and its bank
 abbrev pub view_in : Fiber → Shared → View

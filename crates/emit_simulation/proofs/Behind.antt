@@ -1,6 +1,5 @@
 -- Behind a service: the pieces that trail behind its turn, up to the put of r0.
 use Rattle.std.proofs.Common.{suc, ◌≡◌, ℕ, ◌+◌, ◌<◌, ◌≤◌, List, [], ◌∷◌, ◌++◌, length, false, Some, refl, sym, ap, ◌∙◌, subst, arith, slice_get, slice_index}
-use Rattle.std.specs.Prelude.{Contains}
 use Rattle.std.proofs.lemmas.List.{length-append}
 use Rattle.thumb_code.specs.declared.register_file.Registers.{Registers}
 use Rattle.thumb_code.specs.Step.{fetched}
@@ -14,7 +13,6 @@ use Rattle.thumb_layout.specs.Pieces.{Places}
 use Rattle.flat_ir.specs.declared.ops.Op.{Op}
 use Rattle.flat_ir.specs.declared.ops.FlatCode.{FlatCode}
 use Rattle.flat_ir.specs.Ops.{writes}
-use Rattle.flat_ir.specs.Ops.{goes_on as goes_on_at}
 use Rattle.flat_ir.specs.WellFormed.{temporaries}
 use Rattle.flat_ir.specs.Liveness.{IsLiveAt}
 use Rattle.register_assign.specs.declared.places.Placed.{Placed}
@@ -34,7 +32,7 @@ use Rattle.emit_simulation.proofs.Laid.{AllFlow, store_of}
 use Rattle.emit_simulation.specs.Starts.{start}
 use Rattle.emit_simulation.proofs.Starts.{StandAt, rest_of}
 use Rattle.emit_simulation.specs.Ties.{IsAt, IsTied, AtOp, IsShared, IsImage, Means, spots, place_in, return_to, frames_of}
-use Rattle.emit_simulation.proofs.AtOps.{view_in, bank_in, fiber_seen, shared_seen}
+use Rattle.emit_simulation.proofs.AtOps.{GoesOn, view_in, bank_in, fiber_seen, shared_seen}
 use Rattle.emit_simulation.proofs.Flowing.{flows}
 use Rattle.emit_simulation.proofs.Paths.{path}
 use Rattle.emit_simulation.proofs.Placed.{landed_view, landed_low, landed_shared}
@@ -88,7 +86,7 @@ module _ (C : FlatCode) (placed : List Placed) (flash : List ℕ) (a : Addresses
   -- Behind some of them the word in r0 is put, and the fiber stands at the next op.
   pub put_behind : (to : ℕ) (value : Value) (w : ℕ) (pre xs : List Piece) (v u : View) (lr used' : ℕ) (free : List ℕ) → pieces C placed flash a texts image p f
       callers base c used h t op e x sh ≡ pre ++ (xs ++ lands p.function (is_unread p.function f.place) (place_of p.places to) ∷ []) → writes op ≡ Some to
-      → Contains (goes_on_at f.place op) (suc f.place) → to < temporaries p.function
+      → GoesOn p.function f.place op → to < temporaries p.function
       → AllFlow flash spot xs v u → length v.words ≡ length c.bank → store_of u ≡ store_of (view_in c t) → length u.low ≡ 13
       → (is_unread p.function f.place ≡ false → slice_index u.low 0 ≡ w)
       → Means C placed flash a value w → total_cost xs + 2 ≤ trailing_instructions
@@ -117,14 +115,14 @@ module _ (C : FlatCode) (placed : List Placed) (flash : List ℕ) (a : Addresses
       let run = runs_on flash spot (Means C placed flash a) (small C placed flash a texts image) C.functions (place_in C placed flash a)
       (return_to C placed flash a) p.function place fw.inside
       (λ u. IsLiveAt p.function.ops u f.place) f.temps (frames_of callers) (view_in c t) x.running (is_unread p.function f.place) (λ u. IsLiveAt p.function.ops u (f.place + 1)) to w value u
-      lt es lw m (λ q live. k.unread to (suc f.place) q wr on (subst (IsLiveAt p.function.ops to) (sym z) live))
+      lt es lw m (λ q live. k.unread to (suc f.place) q wr on.0 (subst (IsLiveAt p.function.ops to) (sym z) live))
       (λ m lm d live. (
-        k.kept_live m (suc f.place) on (subst (IsLiveAt p.function.ops m) (sym z) live)
+        k.kept_live m (suc f.place) on.0 (subst (IsLiveAt p.function.ops m) (sym z) live)
             (λ k. d (let b : Some to ≡ Some m = sym wr ∙ k in let b' : m ≡ to = cc in b')),
-        k.apart to m (suc f.place) wr on (subst (IsLiveAt p.function.ops m) (sym z) live) lt lm d,
+        k.apart to m (suc f.place) wr on.0 (subst (IsLiveAt p.function.ops m) (sym z) live) lt lm d,
       )) in
       let tied : IsTied C placed flash a (Stands f' callers base) (fiber_seen c v' (spot.at j) tr.0)
-      = AtOp p f' callers base (fiber_seen c v' (spot.at j) tr.0)
+      = AtOp p f' callers base (fiber_seen c v' (spot.at j) tr.0) on.1
       (stands_behind C placed flash a texts p (λ u. IsLiveAt p.function.ops u f.place) (λ u. IsLiveAt p.function.ops u (f.place + 1)) f callers base
       (start p.function place f.place) (start p.function place (f.place + 1)) j (f.place + 1) c v' tr.0 (with_entry to value f.temps) x tr.2
       (landed_low p.function (is_unread p.function f.place) (place to) w u lw) nx run) in

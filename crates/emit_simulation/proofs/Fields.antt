@@ -29,6 +29,7 @@ use Rattle.thumb_emit.specs.InFlash.{Addresses}
 use Rattle.thumb_emit.specs.Bounds.{op_instructions}
 use Rattle.placed_frames.proofs.Laws.{View, with_low, InArena, ToArena, Get, GetAt, Put, PutAt, get}
 use Rattle.arena_values.proofs.Laws.{FieldSeen, SeesField, FieldChanged, ChangesField, sees_field, changes_field}
+use Rattle.thumb_emit.proofs.Laws.{joined_after}
 use Rattle.emit_simulation.proofs.Laid.{loaded_flags, OfInstr, OfNumber, Flows, store_of}
 use Rattle.emit_simulation.specs.Starts.{start}
 use Rattle.emit_simulation.specs.Ties.{IsAt, IsShared, IsImage, Means, IsText, IsCode, spots}
@@ -128,7 +129,7 @@ module _ (C : FlatCode) (placed : List Placed) (flash : List ℕ) (a : Addresses
             = OfInstr (LdrImm d r (field + 1)) u (with_low d z u) refl
             (Get d r (field + 1) z u (InArena (s.object + 1 + field) m (ap (λ n. n + (field + 1) * 4) (r0 ∙ s.at) ∙ omega arith) refl) small_z) in
             finished C placed flash a texts image p f callers base c used h t op e x sh 6 7 (op_instructions op) to z y h u (with_low d z u)
-            (LdrImm d r (field + 1)) (got there) (ap (λ l. slice_get l 6) ls) load (ap (λ l. slice_get l 7) ls) (ap length ls) refl (0, omega arith, refl) names.0
+            (LdrImm d r (field + 1)) (got there) (ap (λ l. slice_get l 6) ls) load (ap (λ l. slice_get l 7) ls) (ap length ls) refl ((0, omega arith, refl), joined_after p.function f.place op e (λ when. refl)) names.0
             (result_set d z v u (with_low d z u) small_d store_u lw refl refl) s.shows (refl, sh.1) (omega arith)
         by false q =
             let o = field_offset field in let n = lw in
@@ -149,7 +150,7 @@ module _ (C : FlatCode) (placed : List Placed) (flash : List ℕ) (a : Addresses
             let g7 = one C placed flash a texts image p f callers base c used h t op e x sh 6 7 u u2 (Number 2 o) (got there) (ap (λ l. slice_get l 6) ls)
             (OfNumber 2 o u) in
             finished C placed flash a texts image p f callers base c used h t op e x sh 7 9 (op_instructions op) to z y h u2 (with_low d z u2) (LdrReg d r 2) g7
-            (ap (λ l. slice_get l 7) ls) load (ap (λ l. slice_get l 8) ls) (ap length ls) refl (0, omega arith, refl) names.0
+            (ap (λ l. slice_get l 7) ls) load (ap (λ l. slice_get l 8) ls) (ap length ls) refl ((0, omega arith, refl), joined_after p.function f.place op e (λ when. refl)) names.0
             (result_set d z v u2 (with_low d z u2) small_d (store_low 2 o u (omega arith) ∙ store_u) l2 refl refl) s.shows (refl, sh.1) (omega arith)
 
     made : (o : Outcome Value) → SeesField Word a.class t.arena w field o → NoFault (after o (λ y. GoesTurn (Stands (given to y f) callers base) h))
@@ -286,7 +287,7 @@ module _ (C : FlatCode) (placed : List Placed) (flash : List ℕ) (a : Addresses
             = OfInstr (StrImm set_s set_r (field + 1)) u1 v' refl (Put set_s set_r (field + 1) z u1 v' in_s z_small
             (ToArena (s.object + 1 + field) m (ap (λ n. n + (field + 1) * 4) (in_r ∙ s.at) ∙ omega arith))) in
             stored C placed flash a texts image p f callers base c used h t set_op e x sh 7 9 (op_instructions set_op) h' u1 v' (StrImm set_s set_r (field + 1)) got1
-            (ap (λ l. slice_get l 7) ls) (ap length ls) store none_some (0, omega arith, refl) store_1 lu shown (omega arith)
+            (ap (λ l. slice_get l 7) ls) (ap length ls) store none_some ((0, omega arith, refl), joined_after p.function f.place set_op e (λ when. refl)) store_1 lu shown (omega arith)
         by false q =
             let n = lu in let m = s.within in let o = field_offset field in
             let front = brings p.function 0 (place_of p.places object) in
@@ -306,7 +307,7 @@ module _ (C : FlatCode) (placed : List Placed) (flash : List ℕ) (a : Addresses
             let g8 = one C placed flash a texts image p f callers base c used h t set_op e x sh 7 9 u1 u2 (Number 2 o) got1 (ap (λ l. slice_get l 7) ls)
             (OfNumber 2 o u1) in
             stored C placed flash a texts image p f callers base c used h t set_op e x sh 8 11 (op_instructions set_op) h' u2 v' (StrReg set_s set_r 2) g8
-            (ap (λ l. slice_get l 8) ls) (ap length ls) store none_some (0, omega arith, refl)
+            (ap (λ l. slice_get l 8) ls) (ap length ls) store none_some ((0, omega arith, refl), joined_after p.function f.place set_op e (λ when. refl))
             (store_low 2 o u1 (omega arith) ∙ store_1) (length-set u1.low 2 o ∙ lu) shown (omega arith)
 
     changed : (o : Outcome FlatHeap) → ChangesField Word a.class t.arena used t.globals set_w field (f.temps from) o

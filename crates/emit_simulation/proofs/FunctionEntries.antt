@@ -31,6 +31,7 @@ use Rattle.arena_values.specs.Lies.{Shows}
 use Rattle.placed_frames.proofs.Laws.{View, registers_of, bank_of, At}
 use Rattle.placed_frames.specs.Places.{words}
 use Rattle.placed_frames.specs.Frames.{HasFrames, AreWords, outgoing_of, words_at, saved_at}
+use Rattle.thumb_emit.proofs.Laws.{joined_first}
 use Rattle.emit_simulation.proofs.Laid.{Fm, over, store_of}
 use Rattle.emit_simulation.specs.Ties.{AtOp, IsShared, IsImage, Means, spots, place_in, return_to, frames_of, stack_end}
 use Rattle.emit_simulation.proofs.AtOps.{bank_in}
@@ -181,7 +182,7 @@ module _ (C : FlatCode) (placed : List Placed) (flash : List ℕ) (a : Addresses
         let f0 = entered g args in
         wider C placed flash a texts (most + (21 + 4 * fn.params)) (most + 55) used h before (Goes (Stands f0 callers base) h) c t (omega arith)
         (makes_reach C placed flash a texts used 8 (most + (21 + 4 * fn.params)) h h before c t q m (Stands f0 callers base) (omega arith) sh.0 whole
-        (AtOp pg f0 callers base (fiber_of q m) (record {
+        (AtOp pg f0 callers base (fiber_of q m) (joined_first fn) (record {
           there = x.there;
           running = y.runs;
           registers = y.low;

@@ -24,6 +24,7 @@ use Rattle.thumb_emit.specs.Bounds.{op_instructions}
 use Rattle.thumb_emit.specs.InFlash.{Addresses}
 use Rattle.arena_values.proofs.Laws.{sees_global, changes_global}
 use Rattle.placed_frames.proofs.Laws.{View, with_low, InGlobals, Get, Put, ToGlobals}
+use Rattle.thumb_emit.proofs.Laws.{joined_after}
 use Rattle.emit_simulation.proofs.Laid.{loaded_flags, OfInstr, OfNumber}
 use Rattle.emit_simulation.specs.Starts.{start}
 use Rattle.emit_simulation.specs.Ties.{IsAt, IsShared, IsImage, IsText, IsCode}
@@ -75,7 +76,7 @@ module _ (C : FlatCode) (placed : List Placed) (flash : List ℕ) (a : Addresses
             refl,
           ),
         )
-        (omega arith) refl (0, omega arith, refl) lt
+        (omega arith) refl ((0, omega arith, refl), joined_after p.function f.place op e (λ when. refl)) lt
         (result_set d w v u1 u2 (made_small p.function (is_unread p.function f.place) (place_of p.places to) (fw.inside to lt)) (store_low 1 ad v (omega arith)) n1 refl refl)
         s.1 refl refl
 
@@ -124,7 +125,7 @@ module _ (C : FlatCode) (placed : List Placed) (flash : List ℕ) (a : Addresses
             ),
           ),
         )
-        (omega arith) refl (0, omega arith, refl) (store_low 1 ad u1 (omega arith) ∙ brought_store q' 0 w v (omega arith)) (length-set u1.low 1 ad ∙ n1)
+        (omega arith) refl ((0, omega arith, refl), joined_after p.function f.place op e (λ when. refl)) (store_low 1 ad u1 (omega arith) ∙ brought_store q' 0 w v (omega arith)) (length-set u1.low 1 ad ∙ n1)
         (refl, s.1 w m)
 
   pub global_get_makes : (to slot : ℕ) → MakesOp C placed flash a texts (GlobalGet to slot)

@@ -28,6 +28,7 @@ use Rattle.placed_frames.proofs.Laws.{get, View, with_low, InArena, ToArena, Get
 use Rattle.thumb_emit.specs.InFlash.{Addresses}
 use Rattle.thumb_emit.specs.Bounds.{op_instructions}
 use Rattle.arena_values.proofs.Laws.{ItemSeen, SeesItem, LengthSeen, SeesLength, ItemChanged, ChangesItem, sees_item, changes_item, sees_length}
+use Rattle.thumb_emit.proofs.Laws.{joined_after}
 use Rattle.emit_simulation.proofs.Laid.{OfInstr, Flows}
 use Rattle.emit_simulation.specs.Starts.{start}
 use Rattle.emit_simulation.specs.Ties.{IsAt, IsShared, IsImage, Means, IsText, IsCode, spots}
@@ -85,7 +86,7 @@ module _ (C : FlatCode) (placed : List Placed) (flash : List ℕ) (a : Addresses
         = OfInstr (LdrReg d 2 1) u (with_low d z u) refl (GetAt d 2 1 z u (InArena (s.first + wi) (omega arith) ((λ i. k.r2 i + k.r1 i) ∙ omega arith) refl)
         small_z) in
         finished C placed flash a texts image p f callers base c used h t op e x sh 15 20 (op_instructions op) to z y h u (with_low d z u) (LdrReg d 2 1) g refl load
-        refl refl refl (0, omega arith, refl) names.0 (result_set d z v u (with_low d z u) fd k.store k.low refl refl) s.shows (refl, sh.1) (omega arith)
+        refl refl refl ((0, omega arith, refl), joined_after p.function f.place op e (λ when. refl)) names.0 (result_set d z v u (with_low d z u) fd k.store k.low refl refl) s.shows (refl, sh.1) (omega arith)
 
     made : (o : Outcome Value) → SeesItem Word a.class t.arena (word C placed flash a texts image p f callers base c used h t op e x sh array)
         (word C placed flash a texts image p f callers base c used h t op e x sh index) o
@@ -159,7 +160,7 @@ module _ (C : FlatCode) (placed : List Placed) (flash : List ℕ) (a : Addresses
         refl (brings_word C placed flash a texts image p f callers base c used h t set_op e x sh from 3 u set_names.2 (2, omega arith, refl) (omega arith)
         k.store)) in
         stored C placed flash a texts image p f callers base c used h t set_op e x sh 16 22 (op_instructions set_op) h' u1 v' (StrReg r 2 1) g16 refl refl
-        store none_some (0, omega arith, refl) (brought_store q 3 z u (omega arith) ∙ k.store) (brought_length q 3 z u.low ∙ k.low) (refl, s.stores z z_means)
+        store none_some ((0, omega arith, refl), joined_after p.function f.place set_op e (λ when. refl)) (brought_store q 3 z u (omega arith) ∙ k.store) (brought_length q 3 z u.low ∙ k.low) (refl, s.stores z z_means)
         (omega arith)
 
     changed : (o : Outcome FlatHeap) → ChangesItem Word a.class t.arena used t.globals (word C placed flash a texts image p f callers base c used h t set_op e
@@ -226,7 +227,7 @@ module _ (C : FlatCode) (placed : List Placed) (flash : List ℕ) (a : Addresses
         hd.count_is) (omega arith)) in
         finished C placed flash a texts image p f callers base c used h t length_op e x sh 6 7 (op_instructions length_op) to z y h u (with_low d z u) (LdrImm d r 1)
         (object_there C placed flash a texts image p f callers base c used h t length_op e x sh array length_names.1 (0, omega arith, refl) refl refl refl
-        refl refl refl there) refl load refl refl refl (0, omega arith, refl) length_names.0
+        refl refl refl there) refl load refl refl refl ((0, omega arith, refl), joined_after p.function f.place length_op e (λ when. refl)) length_names.0
         (result_set d z v u (with_low d z u) fd (brought_store q 0 w v (omega arith)) n refl refl) s.shows
         (refl, sh.1) (omega arith)
 

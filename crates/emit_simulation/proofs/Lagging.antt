@@ -1,7 +1,6 @@
 -- Behind a service that lets others run, r0 becomes 0 and is put, where somebody reads it: the activity lags so far, whatever others do to what is shared.
 -- Where nobody does, it stands at the next op.
 use Rattle.std.proofs.Common.{suc, ◌≡◌, ℕ, ◌+◌, ◌*◌, ◌<◌, List, length, true, false, ◌==◌, Some, refl, sym, ap, ◌∙◌, subst, arith, slice_get, slice_set, slice_index, get_or-set_same}
-use Rattle.std.specs.Prelude.{Contains}
 use Rattle.std.proofs.lemmas.List.{length-set}
 use Rattle.thumb_code.specs.declared.instructions.Instr.TheVariants.{MovImm, Svc}
 use Rattle.thumb_code.specs.declared.register_file.Registers.{Registers}
@@ -19,7 +18,6 @@ use Rattle.flat_ir.specs.declared.ops.Op.{Op}
 use Rattle.flat_ir.specs.declared.ops.Function.{Function}
 use Rattle.flat_ir.specs.declared.ops.FlatCode.{FlatCode}
 use Rattle.flat_ir.specs.Ops.{writes}
-use Rattle.flat_ir.specs.Ops.{goes_on as goes_on_at}
 use Rattle.flat_ir.specs.WellFormed.{temporaries}
 use Rattle.flat_ir.specs.Liveness.{IsLiveAt}
 use Rattle.register_assign.specs.declared.places.Place.{Place}
@@ -37,7 +35,7 @@ use Rattle.placed_frames.proofs.Laws.{View, registers_of, bank_of, Quiet}
 use Rattle.emit_simulation.proofs.Laid.{over, store_of}
 use Rattle.emit_simulation.specs.Starts.{start}
 use Rattle.emit_simulation.specs.Ties.{IsAt, IsTied, AtOp, IsShared, IsImage, Means, ties, spots, place_in, return_to, frames_of}
-use Rattle.emit_simulation.proofs.AtOps.{view_in, bank_in, fiber_seen}
+use Rattle.emit_simulation.proofs.AtOps.{GoesOn, view_in, bank_in, fiber_seen}
 use Rattle.emit_simulation.proofs.Paths.{path}
 use Rattle.emit_simulation.proofs.Placed.{put_view, put_low, store_low}
 use Rattle.emit_simulation.proofs.Straight.{lands_last, runs_on, runs_with}
@@ -78,8 +76,7 @@ module _ (C : FlatCode) (placed : List Placed) (flash : List ℕ) (a : Addresses
       → slice_get (pieces C placed flash a texts image p f callers base c used h t op e x sh) i ≡ Some (Plain (Svc number))
       → slice_get (pieces C placed flash a texts image p f callers base c used h t op e x sh) (i + 1) ≡ Some (Plain (MovImm 0 0))
       → slice_get (pieces C placed flash a texts image p f callers base c used h t op e x sh) (i + 1 + 1) ≡ Some (to_place p.function 0 (place_of p.places to))
-      → length (pieces C placed flash a texts image p f callers base c used h t op e x sh) ≡ i + 3 → writes op ≡ Some to → Contains (goes_on_at f.place op)
-      (suc f.place) → to < temporaries p.function → store_of v ≡ store_of (view_in c t) → length v.low ≡ 13 → length v.words ≡ length c.bank
+      → length (pieces C placed flash a texts image p f callers base c used h t op e x sh) ≡ i + 3 → writes op ≡ Some to → GoesOn p.function f.place op → to < temporaries p.function → store_of v ≡ store_of (view_in c t) → length v.low ≡ 13 → length v.words ≡ length c.bank
       → (ties C placed flash a).Active h' t' (Stands (given to default f) callers base)
       (fiber_seen c v (spot.behind (first C placed flash a texts image p f callers base c used h t op e x sh + i)) lr)
   lags i number to v lr h' t' q0 q1 q2 n wr on lt es lw long =
@@ -125,12 +122,12 @@ module _ (C : FlatCode) (placed : List Placed) (flash : List ℕ) (a : Addresses
       (return_to C placed flash a) fn place fw.inside
       (λ u. IsLiveAt fn.ops u f.place) f.temps (frames_of callers) (view_in c t) x.running false (λ u. IsLiveAt fn.ops u (f.place + 1)) to 0 default v1 lt e1 l1 is0 (λ q live. not_both q)
       (λ m lm d live. (
-        k.kept_live m (suc f.place) on (subst (IsLiveAt fn.ops m) (sym z) live) (λ k. d (let b : Some to ≡ Some m = sym wr ∙ k in let b' : m ≡ to = cc in b')),
-        k.apart to m (suc f.place) wr on (subst (IsLiveAt fn.ops m) (sym z) live) lt lm d,
+        k.kept_live m (suc f.place) on.0 (subst (IsLiveAt fn.ops m) (sym z) live) (λ k. d (let b : Some to ≡ Some m = sym wr ∙ k in let b' : m ≡ to = cc in b')),
+        k.apart to m (suc f.place) wr on.0 (subst (IsLiveAt fn.ops m) (sym z) live) lt lm d,
       )) in
       let f' : FlatFrame = given to default f in
       let tied : IsTied C placed flash a (Stands f' callers base) (fiber_seen c v2 (spot.at (start fn place (f.place + 1))) lr)
-      = AtOp p f' callers base (fiber_seen c v2 (spot.at (start fn place (f.place + 1))) lr)
+      = AtOp p f' callers base (fiber_seen c v2 (spot.at (start fn place (f.place + 1))) lr) on.1
       (stands_behind C placed flash a texts p (λ u. IsLiveAt fn.ops u f.place) (λ u. IsLiveAt fn.ops u (f.place + 1)) f callers base (start fn place f.place)
       (start fn place (f.place + 1)) (start fn place (f.place + 1)) (f.place + 1) c v2 lr (with_entry to default f.temps) x
       (put_long fn (place to) 0 v1 ∙ long) (put_low fn (place to) 0 v1 l1) refl run) in
@@ -179,7 +176,7 @@ module _ (C : FlatCode) (placed : List Placed) (flash : List ℕ) (a : Addresses
       → slice_get (pieces C placed flash a texts image p f callers base c used h t op e x sh) i ≡ Some (Plain (Svc number))
       → slice_get (pieces C placed flash a texts image p f callers base c used h t op e x sh) (i + 1) ≡ Some (idle_piece p.function)
       → length (pieces C placed flash a texts image p f callers base c used h t op e x sh) ≡ i + 2 → is_unread p.function f.place ≡ true → writes op ≡ Some to
-      → Contains (goes_on_at f.place op) (suc f.place) → to < temporaries p.function → store_of v ≡ store_of (view_in c t) → length v.low ≡ 13
+      → GoesOn p.function f.place op → to < temporaries p.function → store_of v ≡ store_of (view_in c t) → length v.low ≡ 13
       → length v.words ≡ length c.bank
       → IsTied C placed flash a (Stands (given to default f) callers base)
       (fiber_seen c v (spot.behind (first C placed flash a texts image p f callers base c used h t op e x sh + i)) lr)
@@ -198,13 +195,13 @@ module _ (C : FlatCode) (placed : List Placed) (flash : List ℕ) (a : Addresses
       let run = runs_with flash spot (Means C placed flash a) (small C placed flash a texts image) C.functions (place_in C placed flash a)
       (return_to C placed flash a) fn place fw.inside
       (λ u. IsLiveAt fn.ops u f.place) f.temps (frames_of callers) (view_in c t) x.running true (λ u. IsLiveAt fn.ops u (f.place + 1)) to 0 default v lt es is0
-      (λ q live. k.unread to (suc f.place) ur wr on (subst (IsLiveAt fn.ops to) (sym z) live))
+      (λ q live. k.unread to (suc f.place) ur wr on.0 (subst (IsLiveAt fn.ops to) (sym z) live))
       (λ m lm d live. (
-        k.kept_live m (suc f.place) on (subst (IsLiveAt fn.ops m) (sym z) live) (λ k. d (let b : Some to ≡ Some m = sym wr ∙ k in let b' : m ≡ to = cc in b')),
-        k.apart to m (suc f.place) wr on (subst (IsLiveAt fn.ops m) (sym z) live) lt lm d,
+        k.kept_live m (suc f.place) on.0 (subst (IsLiveAt fn.ops m) (sym z) live) (λ k. d (let b : Some to ≡ Some m = sym wr ∙ k in let b' : m ≡ to = cc in b')),
+        k.apart to m (suc f.place) wr on.0 (subst (IsLiveAt fn.ops m) (sym z) live) lt lm d,
       )) in
       let f' : FlatFrame = given to default f in
       subst (λ j. IsTied C placed flash a (Stands f' callers base) (fiber_seen c v j lr)) (sym (z1 ∙ z2))
-      (AtOp p f' callers base (fiber_seen c v (spot.at (start fn place (f.place + 1))) lr)
+      (AtOp p f' callers base (fiber_seen c v (spot.at (start fn place (f.place + 1))) lr) on.1
       (stands_behind C placed flash a texts p (λ u. IsLiveAt fn.ops u f.place) (λ u. IsLiveAt fn.ops u (f.place + 1)) f callers base (start fn place f.place)
       (start fn place (f.place + 1)) (start fn place (f.place + 1)) (f.place + 1) c v lr (with_entry to default f.temps) x long lw refl run))

@@ -17,6 +17,7 @@ pub mod Globals
 pub mod Control
 pub mod Words
 pub mod Division
+pub mod Comparing
 pub mod Numbers
 pub mod Lowering
 pub mod Walk

@@ -38,6 +38,7 @@ use Rattle.thumb_emit.specs.Bounds.{op_instructions}
 use Rattle.placed_frames.proofs.Laws.{View, with_low, InFlash, ToArena, Quiet, Get, Put}
 use Rattle.arena_values.specs.Lies.{Shows}
 use Rattle.arena_values.proofs.Laws.{shows_object, shows_array}
+use Rattle.thumb_emit.proofs.Laws.{joined_after}
 use Rattle.emit_simulation.proofs.Laid.{store_of, OfInstr, OfNumber, OfAddress, Flows, loaded_flags}
 use Rattle.emit_simulation.specs.Starts.{start}
 use Rattle.emit_simulation.specs.Ties.{IsAt, IsShared, IsImage, Means, IsText, IsCode, spots}
@@ -105,7 +106,7 @@ module _ (C : FlatCode) (placed : List Placed) (flash : List ℕ) (a : Addresses
         (omega arith)) in
         let r = put_behind C placed flash a texts image p f callers base c used h t op e x sh to (Object used) at
         (Address 1 (Class class) ∷ Plain (LdrImm 0 1 0) ∷ Plain (Svc 18) ∷ []) (Plain (StrImm 1 0 0) ∷ []) v3 u lr (used + suc n) t.free refl refl
-        (0, omega arith, refl) ((k.op_within).names).0
+        ((0, omega arith, refl), joined_after p.function f.place op e (λ when. refl)) ((k.op_within).names).0
         (u, store, refl) (ap length ws) (store_low 0 at v2 (omega arith) ∙ es) (length-set v2.low 0 at ∙ l2) (λ q. y0) (refl, omega arith) (omega arith) in
         record {
           fiber = r.0;
@@ -235,7 +236,7 @@ module _ (C : FlatCode) (placed : List Placed) (flash : List ℕ) (a : Addresses
         = OfInstr (StrImm 1 0 3) v7 u refl (Put 1 0 3 items v7 u d1 (omega arith) (ToArena (used + 3) (omega arith) (ap (λ q. q + 3 * 4) d0 ∙ omega arith))) in
         let r = put_behind C placed flash a texts image p f callers base c used h t array_op e x sh to (Object used) at
         (Number 0 asked_words ∷ Plain (Svc 18) ∷ []) (Number 1 rm ∷ Plain (StrImm 1 0 2) ∷ Plain (MovHigh 1 0) ∷ Plain (AddImm8 1 16) ∷ Plain
-        (StrImm 1 0 3) ∷ []) v3 u lr (used + (4 + room)) t.free refl refl (0, omega arith, refl)
+        (StrImm 1 0 3) ∷ []) v3 u lr (used + (4 + room)) t.free refl refl ((0, omega arith, refl), joined_after p.function f.place array_op e (λ when. refl))
         ((k.op_within).names).0 (v4, OfNumber 1 rm v3, (v5, store_room, (v6, move, (v7, add, (u, store_items, refl))))) refl
         (store_low 1 sum v6 (omega arith) ∙ (store_low 1 at v5 (omega arith) ∙
         (store_low 1 rm v3 (omega arith) ∙ (store_low 0 at array_view (omega arith) ∙ store_low 0 asked_words array_v (omega arith))))) n7 (λ q. d0)

@@ -1,6 +1,7 @@
 -- Operators make their turns.
-use Rattle.std.proofs.Common.{suc, ◌≡◌, ℕ, ◌+◌, ◌*◌, ◌<◌, ◌≤◌, List, [], ◌∷◌, ◌++◌, length, Bool, true, false, cond, Some, refl, sym, ap, ◌∙◌, subst, arith, slice_get, slice_index, ◌==◌}
-use Rattle.std.specs.Prelude.{Contains, pos, negsuc, ◌+ℤ◌}
+use Rattle.std.proofs.Common.{suc, ◌≡◌, ℕ, ◌+◌, ◌*◌, ◌<◌, ◌≤◌, List, [], ◌∷◌, ◌++◌, length, Bool, true, false, cond, Option, Some, None, refl, sym, ap, ◌∙◌, subst, arith, slice_get, slice_index, ◌==◌}
+use Rattle.std.specs.Prelude.{pos, negsuc, ◌+ℤ◌}
+use Rattle.thumb_code.specs.declared.instructions.Instr.TheVariants.{CmpImm, CmpReg}
 use Rattle.thumb_code.specs.Step.{fetched}
 use Rattle.board_world.specs.Observations.{ByteList}
 use Rattle.board_world.specs.Kinds.{Goes}
@@ -10,7 +11,7 @@ use Rattle.thumb_layout.specs.declared.pieces.Piece.{Piece}
 use Rattle.flat_ir.specs.declared.ops.Op.{Op}
 use Rattle.flat_ir.specs.declared.ops.Op.TheVariants.{Unary, Binary}
 use Rattle.flat_ir.specs.declared.ops.FlatCode.{FlatCode}
-use Rattle.flat_ir.specs.Ops.{writes, goes_on}
+use Rattle.flat_ir.specs.Ops.{writes}
 use Rattle.flat_ir.specs.WellFormed.{temporaries}
 use Rattle.flat_ir.specs.Liveness.{IsLiveAt}
 use Rattle.register_assign.specs.declared.places.Placed.{Placed}
@@ -21,7 +22,8 @@ use Rattle.sts_meaning.specs.Frames.{after}
 use Rattle.sts_meaning.specs.Heaps.{FlatHeap}
 use Rattle.flat_meaning.specs.Operators.{prefixed_by}
 use Rattle.flat_meaning.specs.Frames.{FlatFrame, Stands, given}
-use Rattle.thumb_emit.specs.Emit.{op_pieces, function_pieces, unary, binary}
+use Rattle.thumb_emit.specs.Joined.{joined_by}
+use Rattle.thumb_emit.specs.Emit.{op_pieces, function_pieces, unary, binary, test_pieces}
 use Rattle.thumb_emit.specs.Frame.{register_of, brings, keeps, result_in}
 use Rattle.thumb_layout.specs.Holds.{cost}
 use Rattle.thumb_emit.specs.Bounds.{op_instructions, total_cost}
@@ -33,7 +35,7 @@ use Rattle.emit_simulation.proofs.Laid.{AllFlow, Comes, step_of, steps_of, store
 use Rattle.emit_simulation.specs.Starts.{start}
 use Rattle.emit_simulation.proofs.Starts.{StandAt, first_of, rest_of}
 use Rattle.emit_simulation.specs.Ties.{IsAt, IsShared, IsImage, IsText, IsCode, Means, spots, place_in, return_to, frames_of}
-use Rattle.emit_simulation.proofs.AtOps.{view_in, bank_in}
+use Rattle.emit_simulation.proofs.AtOps.{GoesOn, view_in, bank_in}
 use Rattle.emit_simulation.proofs.Leaving.{AllLeave}
 use Rattle.emit_simulation.proofs.OwedOps.{MakesOp}
 use Rattle.emit_simulation.proofs.Flowing.{flows, flows_one, then}
@@ -44,6 +46,7 @@ use Rattle.emit_simulation.proofs.Meanings.{are_words, small}
 use Rattle.emit_simulation.proofs.Turns.{Owed}
 use Rattle.emit_simulation.proofs.Ops.{here, word, word_means, word_small, brings_word, gives, wider}
 use Rattle.emit_simulation.proofs.Words.{unary_leaves, binary_leaves, shift_flags}
+use Rattle.emit_simulation.proofs.Comparing.{compared_unary, compared_binary}
 use Rattle.emit_simulation.proofs.Division.{quotient_leaves, remainder_leaves}
 
 module _ (C : FlatCode) (placed : List Placed) (flash : List ℕ) (a : Addresses) (texts : List ByteList) (image : IsImage C placed flash a texts) where
@@ -58,7 +61,7 @@ module _ (C : FlatCode) (placed : List Placed) (flash : List ℕ) (a : Addresses
         → u.globals ≡ t.globals → u.arena ≡ t.arena
         → AllLeave (fetched flash c.base) flash (spots C placed flash a f.function p) (function_pieces p) (bank_in flash c t) t.free xs u
         (result_in (is_unread p.function f.place) (place_of p.places to)) w most
-        → writes op ≡ Some to → Contains (goes_on f.place op) (suc f.place) → to < temporaries p.function → Means C placed flash a value w
+        → writes op ≡ Some to → GoesOn p.function f.place op → to < temporaries p.function → Means C placed flash a value w
         → total_cost gs + most + 2 ≤ op_instructions op
         → Owed C placed flash a texts (op_instructions op) used h t (Goes (Stands (given to value f) callers base) h) c t
     computed_gives to value w most gs xs u ps fl es eg ea lv wr on lt m bound =
@@ -134,10 +137,13 @@ module _ (C : FlatCode) (placed : List Placed) (flash : List ℕ) (a : Addresses
   module _ (p : Placed) (f : FlatFrame) (callers : List FlatFrame) (base : ℕ) (c : Fiber) (used : ℕ) (h : FlatHeap) (t : Shared)
       (x : IsAt C placed flash a p (λ u. IsLiveAt p.function.ops u f.place) f callers base (start p.function (place_of p.places) f.place) c)
       (sh : IsShared C placed flash a used h t) where
-    by_unary : (to op from : ℕ) → (e : slice_get p.function.ops f.place ≡ Some (Unary to op from)) → (o : Outcome Value) → prefixed_by op (f.temps from) ≡ o
+    next_is : joined_by p.function (suc f.place) ≡ None → joined_by p.function (f.place + 1) ≡ None
+    next_is free = let z : suc f.place ≡ f.place + 1 = omega arith in subst (λ n. joined_by p.function n ≡ None) z free
+
+    by_unary : (to op from : ℕ) → (free : joined_by p.function (suc f.place) ≡ None) → (e : slice_get p.function.ops f.place ≡ Some (Unary to op from)) → (o : Outcome Value) → prefixed_by op (f.temps from) ≡ o
         → NoFault (after o (λ v. Goes (Stands (given to v f) callers base) h))
         → Owed C placed flash a texts (op_instructions (Unary to op from)) used h t (after o (λ v. Goes (Stands (given to v f) callers base) h)) c t
-    by_unary to op from e o q nf =
+    by_unary to op from free e o q nf =
         let k = here C placed flash a texts image p f callers base c used h t (Unary to op from) e x sh in
         let lf : from < temporaries p.function = (((k.op_within).names).1).0 in
         let w = word C placed flash a texts image p f callers base c used h t (Unary to op from) e x sh from in
@@ -162,7 +168,10 @@ module _ (C : FlatCode) (placed : List Placed) (flash : List ℕ) (a : Addresses
             let bs = brings_still p.function 0 pf in
             let cb = still_takes p.function (brings p.function 0 pf) bs in
             computed_gives p f callers base c used h t (Unary to op from) e x sh to value (prefix_word op w) 11
-            (brings p.function 0 pf ∷ []) (unary p.function (result_in (is_unread p.function f.place) (place_of p.places to)) r op (3 * f.place + 1)) u refl (
+            (brings p.function 0 pf ∷ []) (unary p.function (result_in (is_unread p.function f.place) (place_of p.places to)) r op (3 * f.place + 1)) u
+            (ap (λ o. brings p.function 0 pf ∷ test_pieces o (CmpImm r 0)
+            (unary p.function (result_in (is_unread p.function f.place) (place_of p.places to)) r op (3 * f.place + 1)
+            ++ (keeps p.function (is_unread p.function f.place) (place_of p.places to) ∷ []))) free) (
               u,
               brings_word C placed flash a texts image p f callers base c used h t (Unary to op from) e x sh from 0 v lf (0, omega arith, refl) (omega arith)
                   refl,
@@ -173,14 +182,14 @@ module _ (C : FlatCode) (placed : List Placed) (flash : List ℕ) (a : Addresses
             (3 * f.place + 1) w (register_small p.function pf 0 (omega arith) (fw.inside from lf))
             (not_scratch p.function pf 0 1 (omega arith) (λ e. omega arith) (fw.inside from lf))
             (brought_word p.function pf 0 w v (omega arith) (fw.inside from lf) rg refl))
-            refl (0, omega arith, refl) lt l (omega arith))
+            refl ((0, omega arith, refl), next_is free) lt l (omega arith))
         by_outcome (Breaks code) l nf = absurd l
         by_outcome Stuck l nf = absurd nf
 
-    by_binary : (to op left right : ℕ) → (e : slice_get p.function.ops f.place ≡ Some (Binary to op left right)) → (o : Outcome Value)
+    by_binary : (to op left right : ℕ) → (free : joined_by p.function (suc f.place) ≡ None) → (e : slice_get p.function.ops f.place ≡ Some (Binary to op left right)) → (o : Outcome Value)
         → applied op (f.temps left) (f.temps right) ≡ o → NoFault (after o (λ v. Goes (Stands (given to v f) callers base) h))
         → Owed C placed flash a texts (op_instructions (Binary to op left right)) used h t (after o (λ v. Goes (Stands (given to v f) callers base) h)) c t
-    by_binary to op left right e o q nf =
+    by_binary to op left right free e o q nf =
         let o' = Binary to op left right in
         let k = here C placed flash a texts image p f callers base c used h t o' e x sh in
         let ll : left < temporaries p.function = (((k.op_within).names).1).0 in
@@ -229,12 +238,14 @@ module _ (C : FlatCode) (placed : List Placed) (flash : List ℕ) (a : Addresses
         let ca = still_takes fn (brings fn 0 pa) (brings_still fn 0 pa) in let cb = still_takes fn (brings fn 1 pb) (brings_still fn 1 pb) in
         by_outcome (operated flags op w1 w2) flags o lw nf
         (λ value m. computed_gives p f callers base c used h t o' e x sh to value (operated flags op w1 w2) 242
-        (brings fn 0 pa ∷ (brings fn 1 pb ∷ [])) (binary fn d ra rb op (3 * f.place + 1)) u2 refl (
+        (brings fn 0 pa ∷ (brings fn 1 pb ∷ [])) (binary fn d ra rb op (3 * f.place + 1)) u2
+        (ap (λ o. brings fn 0 pa ∷ (brings fn 1 pb ∷ test_pieces o (CmpReg ra rb)
+        (binary fn d ra rb op (3 * f.place + 1) ++ (keeps fn (is_unread fn f.place) (place_of p.places to) ∷ [])))) free) (
           u1,
           brings_word C placed flash a texts image p f callers base c used h t o' e x sh left 0 v ll (0, omega arith, refl) (omega arith) refl,
           (u2, brings_word C placed flash a texts image p f callers base c used h t o' e x sh right 1 u1 lr (1, omega arith, refl) (omega arith) e1, refl),
         ) (brought_store pb 1 w2 u1 (omega arith) ∙ e1) refl refl
-        lv refl (0, omega arith, refl) lt m (omega arith))
+        lv refl ((0, omega arith, refl), next_is free) lt m (omega arith))
       where
         by_outcome : (w flags : ℕ) (o : Outcome Value) → Lv flags o w → NoFault (after o (λ v. Goes (Stands (given to v f) callers base) h))
             → ((value : Value) → Means C placed flash a value w → Owed C placed flash a texts (op_instructions (Binary to op left right)) used h t
@@ -246,8 +257,17 @@ module _ (C : FlatCode) (placed : List Placed) (flash : List ℕ) (a : Addresses
 
   -- A PREFIX OPERATOR, and an operator
   pub unary_makes : (to op from : ℕ) → MakesOp C placed flash a texts (Unary to op from)
-  unary_makes to op from p f callers base c used h t e x sh nf = by_unary p f callers base c used h t x sh to op from e (prefixed_by op (f.temps from)) refl nf
+  unary_makes to op from p f callers base c used h t e x sh nf = by (joined_by p.function (suc f.place)) refl
+    where
+      by : (o : Option ℕ) → joined_by p.function (suc f.place) ≡ o → Owed C placed flash a texts (op_instructions (Unary to op from)) used h t
+          (after (prefixed_by op (f.temps from)) (λ v. Goes (Stands (given to v f) callers base) h)) c t
+      by None free = by_unary p f callers base c used h t x sh to op from free e (prefixed_by op (f.temps from)) refl nf
+      by (Some condition) j = compared_unary C placed flash a texts image p f callers base c used h t x sh condition j to op from e nf
 
   pub binary_makes : (to op left right : ℕ) → MakesOp C placed flash a texts (Binary to op left right)
-  binary_makes to op left right p f callers base c used h t e x sh nf = by_binary p f callers base c used h t x sh to op left right e
-      (applied op (f.temps left) (f.temps right)) refl nf
+  binary_makes to op left right p f callers base c used h t e x sh nf = by (joined_by p.function (suc f.place)) refl
+    where
+      by : (o : Option ℕ) → joined_by p.function (suc f.place) ≡ o → Owed C placed flash a texts (op_instructions (Binary to op left right)) used h t
+          (after (applied op (f.temps left) (f.temps right)) (λ v. Goes (Stands (given to v f) callers base) h)) c t
+      by None free = by_binary p f callers base c used h t x sh to op left right free e (applied op (f.temps left) (f.temps right)) refl nf
+      by (Some condition) j = compared_binary C placed flash a texts image p f callers base c used h t x sh condition j to op left right e nf

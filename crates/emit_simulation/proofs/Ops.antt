@@ -26,12 +26,13 @@ use Rattle.thumb_emit.specs.Frame.{from_place, brings, keeps, result_in}
 use Rattle.thumb_emit.specs.Emit.{op_pieces, function_pieces}
 use Rattle.thumb_emit.proofs.Laws.{op_takes}
 use Rattle.thumb_emit.specs.Bounds.{op_instructions, total_cost}
+use Rattle.thumb_emit.specs.Joined.{joined_by}
 use Rattle.thumb_emit.specs.InFlash.{Addresses}
 use Rattle.emit_simulation.proofs.Laid.{Comes, Flows, AllFlow, steps_of, store_of}
 use Rattle.emit_simulation.specs.Starts.{start}
 use Rattle.emit_simulation.proofs.Starts.{StandAt}
 use Rattle.emit_simulation.specs.Ties.{IsAt, AtOp, IsShared, IsImage, Means, spots, place_in, return_to, frames_of}
-use Rattle.emit_simulation.proofs.AtOps.{view_in, bank_in, fiber_seen, shared_seen, AtOpOf}
+use Rattle.emit_simulation.proofs.AtOps.{GoesOn, view_in, bank_in, fiber_seen, shared_seen, AtOpOf}
 use Rattle.emit_simulation.proofs.Flowing.{flows}
 use Rattle.emit_simulation.proofs.Leaving.{StandsIn}
 use Rattle.emit_simulation.proofs.Placed.{brought, kept_view, store_kept, kept_low, kept_shared, put_result}
@@ -112,16 +113,16 @@ module _ (C : FlatCode) (placed : List Placed) (flash : List ℕ) (a : Addresses
 
     -- BEHIND ITS PIECES the frame goes on at a place
     pub goes_to : (least most j k : ℕ) (v : View) (temps' : ℕ → Value) (h' : FlatHeap) → 0 < least → Reached p f c t least most j v → j ≡ start p.function
-        (place_of p.places) k
+        (place_of p.places) k → joined_by p.function k ≡ None
         → Running (Means C placed flash a) C.functions (place_in C placed flash a) (return_to C placed flash a) p.function (place_of p.places)
         (λ u. IsLiveAt p.function.ops u k) temps' (frames_of callers) (store_of v)
         → length v.low ≡ 13 → IsShared C placed flash a used h' (shared_seen used v t.free)
         → Owed C placed flash a texts most used h t (Goes (Stands (record { function = f.function; place = k; temps = temps' }) callers base) h') c t
-    goes_to least most j k v temps' h' l y z r low s =
+    goes_to least most j k v temps' h' l y z free r low s =
         let f' : FlatFrame = record { function = f.function; place = k; temps = temps' } in
         makes_goes C placed flash a texts (spots C placed flash a f.function p) used least most (start p.function (place_of p.places) f.place + 1) j h h' t c t
         v (Stands f' callers base) l sh.0 pc_behind y
-        (AtOp p f' callers base (fiber_seen c v ((spots C placed flash a f.function p).at j) y.link)
+        (AtOp p f' callers base (fiber_seen c v ((spots C placed flash a f.function p).at j) y.link) free
         (stands_behind C placed flash a texts p (λ u. IsLiveAt p.function.ops u f.place) (λ u. IsLiveAt p.function.ops u k) f callers base
         (start p.function (place_of p.places) f.place) (start p.function (place_of p.places) k) j k c v y.link temps' x y.long low z r)) s
 
@@ -134,7 +135,7 @@ module _ (C : FlatCode) (placed : List Placed) (flash : List ℕ) (a : Addresses
     )
 
     -- A VALUE IS GIVEN: it stands in its temporary's place, and the next op follows
-    pub gives : (to : ℕ) (value : Value) (least most w : ℕ) (v : View) → writes op ≡ Some to → Contains (goes_on f.place op) (suc f.place) → 0 < least
+    pub gives : (to : ℕ) (value : Value) (least most w : ℕ) (v : View) → writes op ≡ Some to → GoesOn p.function f.place op → 0 < least
         → to < temporaries p.function
         → Reached p f c t least most (start p.function (place_of p.places) f.place + 1 + length (op_pieces p.function (place_of p.places) f.place op)) v
         → store_of v ≡ put_result p.function (is_unread p.function f.place) (place_of p.places to) w (store_of (view_in c t)) → length v.low ≡ 13 → Means C placed flash a value w
@@ -144,15 +145,15 @@ module _ (C : FlatCode) (placed : List Placed) (flash : List ℕ) (a : Addresses
         let place = place_of p.places in
         let z : suc f.place ≡ f.place + 1 = omega arith in
         goes_to least most (start p.function place f.place + 1 + length (op_pieces p.function place f.place op)) (f.place + 1) v (with_entry to value f.temps)
-        h l y (sym here.next)
+        h l y (sym here.next) on.1
         (runs_with flash (spots C placed flash a f.function p) (Means C placed flash a) (small C placed flash a texts image) C.functions
         (place_in C placed flash a) (return_to C placed flash a) p.function place ((here.within_function).inside)
         (λ u. IsLiveAt p.function.ops u f.place) f.temps (frames_of callers) (view_in c t) x.running (is_unread p.function f.place) (λ u. IsLiveAt p.function.ops u (f.place + 1)) to w value
-        v lt es i (λ q live. here.unread to (suc f.place) q wr on (subst (IsLiveAt p.function.ops to) (sym z) live))
+        v lt es i (λ q live. here.unread to (suc f.place) q wr on.0 (subst (IsLiveAt p.function.ops to) (sym z) live))
         (λ m lm d live. (
-          here.kept_live m (suc f.place) on (subst (IsLiveAt p.function.ops m) (sym z) live)
+          here.kept_live m (suc f.place) on.0 (subst (IsLiveAt p.function.ops m) (sym z) live)
               (λ k. d (let b : Some to ≡ Some m = sym wr ∙ k in let b' : m ≡ to = cc in b')),
-          here.apart to m (suc f.place) wr on (subst (IsLiveAt p.function.ops m) (sym z) live) lt lm d,
+          here.apart to m (suc f.place) wr on.0 (subst (IsLiveAt p.function.ops m) (sym z) live) lt lm d,
         )))
         n (shared_same v g r)
 
@@ -218,7 +219,7 @@ module _ (C : FlatCode) (placed : List Placed) (flash : List ℕ) (a : Addresses
     pub straight_puts : (to : ℕ) (value : Value) (w : ℕ) (v : View)
         → AllFlow flash (spots C placed flash a f.function p) (op_pieces p.function (place_of p.places) f.place op) (view_in c t) v
         → 0 < steps_of (op_pieces p.function (place_of p.places) f.place op)
-        → writes op ≡ Some to → Contains (goes_on f.place op) (suc f.place) → to < temporaries p.function
+        → writes op ≡ Some to → GoesOn p.function f.place op → to < temporaries p.function
         → store_of v ≡ put_result p.function (is_unread p.function f.place) (place_of p.places to) w (store_of (view_in c t)) → length v.low ≡ 13 → Means C placed flash a value w
         → v.globals ≡ t.globals → v.arena ≡ t.arena
         → Owed C placed flash a texts (op_instructions op) used h t (Goes (Stands (given to value f) callers base) h) c t
@@ -239,7 +240,7 @@ module _ (C : FlatCode) (placed : List Placed) (flash : List ℕ) (a : Addresses
     -- STRAIGHT PIECES that leave a result, which is kept
     pub straight_gives : (to : ℕ) (value : Value) (w : ℕ) (u : View) (xs : List Piece) → op_pieces p.function (place_of p.places) f.place op ≡ xs ++
         keeps p.function (is_unread p.function f.place) (place_of p.places to) ∷ [] → AllFlow flash (spots C placed flash a f.function p) xs (view_in c t) u → 0 < steps_of xs
-        → writes op ≡ Some to → Contains (goes_on f.place op) (suc f.place) → to < temporaries p.function
+        → writes op ≡ Some to → GoesOn p.function f.place op → to < temporaries p.function
         → StandsIn (result_in (is_unread p.function f.place) (place_of p.places to)) w (view_in c t) u → Means C placed flash a value w → u.globals ≡ t.globals → u.arena ≡ t.arena
         → Owed C placed flash a texts (op_instructions op) used h t (Goes (Stands (given to value f) callers base) h) c t
     straight_gives to value w u xs ps fl some wr on lt r i g ar =
@@ -263,7 +264,7 @@ module _ (C : FlatCode) (placed : List Placed) (flash : List ℕ) (a : Addresses
     -- STRAIGHT PIECES that leave the frames as they are
     pub straight_goes : (h' : FlatHeap) (v : View) → AllFlow flash (spots C placed flash a f.function p) (op_pieces p.function (place_of p.places) f.place op)
         (view_in c t) v → 0 < steps_of (op_pieces p.function (place_of p.places) f.place op)
-        → writes op ≡ None → Contains (goes_on f.place op) (suc f.place) → store_of v ≡ store_of (view_in c t) → length v.low ≡ 13 → IsShared C placed flash a
+        → writes op ≡ None → GoesOn p.function f.place op → store_of v ≡ store_of (view_in c t) → length v.low ≡ 13 → IsShared C placed flash a
         used h' (shared_seen used v t.free)
         → Owed C placed flash a texts (op_instructions op) used h t (Goes (Stands (record { function = f.function; place = f.place + 1; temps = f.temps })
         callers base) h') c t
@@ -278,5 +279,5 @@ module _ (C : FlatCode) (placed : List Placed) (flash : List ℕ) (a : Addresses
         refl fl in
         let b = op_takes p.function place f.place op in
         wider C placed flash a texts (total_cost ps) (op_instructions op) used h t _ c t (omega arith)
-        (goes_to (steps_of ps) (total_cost ps) (s1 + length ps) (f.place + 1) v f.temps h' pos all (sym k.next)
-        (runs_same (suc f.place) (f.place + 1) v (omega arith) on (λ m q. (let z : None ≡ Some m = sym wr ∙ q in elim_none m z)) es) n s')
+        (goes_to (steps_of ps) (total_cost ps) (s1 + length ps) (f.place + 1) v f.temps h' pos all (sym k.next) on.1
+        (runs_same (suc f.place) (f.place + 1) v (omega arith) on.0 (λ m q. (let z : None ≡ Some m = sym wr ∙ q in elim_none m z)) es) n s')

@@ -1,5 +1,5 @@
 -- What is owed for one op: a fiber that stands at it makes flat code's turn.
-use Rattle.std.specs.Prelude.{◌≡◌, ℕ, ◌+◌, ◌≤◌, List, Some, slice_get}
+use Rattle.std.specs.Prelude.{◌≡◌, ℕ, ◌+◌, ◌≤◌, List, Some, None, slice_get}
 use Rattle.board_world.specs.Observations.{ByteList}
 use Rattle.board_world.specs.Kinds.{Turn}
 use Rattle.board_world.specs.Simulation.{Path, Matches, one}
@@ -16,6 +16,7 @@ use Rattle.register_assign.specs.Sound.{place_of}
 use Rattle.flat_meaning.specs.Frames.{FlatFrame, FlatActivity}
 use Rattle.flat_meaning.specs.Steps.{flat, act}
 use Rattle.sts_implements.specs.Passes.{trailing_instructions}
+use Rattle.thumb_emit.specs.Joined.{joined_by}
 use Rattle.thumb_emit.specs.Bounds.{op_instructions}
 use Rattle.thumb_emit.specs.InFlash.{Addresses}
 use Rattle.emit_simulation.specs.Starts.{start}
@@ -36,7 +37,20 @@ module _ (C : FlatCode) (placed : List Placed) (flash : List ℕ) (a : Addresses
     pub completes : Completes (fibers flash) one trailing_instructions used ((fibers flash).step last memory) below
     pub match : Matches (flat C texts) (fibers flash) (ties C placed flash a) used h before turn below
 
-  -- a fiber that stands at an op makes its turn, unless that is a fault
+  -- a fiber that stands at an op that isn't joined with the one before it makes its turn, unless that is a fault
+  abbrev pub MakesAlone : Op → Type 0
+  MakesAlone op =
+      (p : Placed) (f : FlatFrame) (callers : List FlatFrame) (base : ℕ) (c : Fiber) (used : ℕ) (h : FlatHeap)
+      (t : Shared)
+      → joined_by p.function f.place ≡ None
+      → slice_get p.function.ops f.place ≡ Some op
+      → IsAt C placed flash a p (λ u. IsLiveAt p.function.ops u f.place) f callers base
+      (start p.function (place_of p.places) f.place) c
+      → IsShared C placed flash a used h t
+      → NoFault (act C texts h f callers base op)
+      → Makes (op_instructions op) used h t (act C texts h f callers base op) c t
+
+  -- so does one whatever was before its op
   abbrev pub MakesOp : Op → Type 0
   MakesOp op =
       (p : Placed) (f : FlatFrame) (callers : List FlatFrame) (base : ℕ) (c : Fiber) (used : ℕ) (h : FlatHeap)

@@ -26,6 +26,7 @@ use Rattle.thumb_emit.specs.InFlash.{Addresses}
 use Rattle.thumb_emit.specs.Bounds.{op_instructions}
 use Rattle.placed_frames.proofs.Laws.{View, with_low, InArena, ToArena, Get, GetAt, Put}
 use Rattle.arena_values.proofs.Laws.{Header, ItemPopped, NoItem, PopsItem, pops, words_unequal}
+use Rattle.thumb_emit.proofs.Laws.{joined_after}
 use Rattle.emit_simulation.proofs.Laid.{OfInstr, Flows, store_of}
 use Rattle.emit_simulation.specs.Starts.{start}
 use Rattle.emit_simulation.specs.Ties.{IsAt, IsShared, IsImage, Means, IsText, IsCode, spots}
@@ -167,7 +168,7 @@ module _ (C : FlatCode) (placed : List Placed) (flash : List ℕ) (a : Addresses
         = OfInstr (LdrReg d0 2 1) u (with_low d0 z u) refl (GetAt d0 2 1 z u (InArena (first + less) (omega arith) ((λ i. fd'.r2 i + fd'.r1 i) ∙ omega arith) same)
         small_z) in
         finished C placed flash a texts image p f callers base c used h t op e x sh 16 22 (op_instructions op) to z y h' u (with_low d0 z u) (LdrReg d0 2 1) g16 refl
-        load refl refl refl (0, omega arith, refl) names.0
+        load refl refl refl ((0, omega arith, refl), joined_after p.function f.place op e (λ when. refl)) names.0
         (result_set d0 z v u (with_low d0 z u) fd (fd'.store ∙ (store_low 1 d (u8 count) (omega arith) ∙ (store_low 1 count u6 (omega arith) ∙ store6))) fd'.low refl refl)
         s.shows (refl, s.changed) (omega arith)
 

@@ -49,6 +49,8 @@ use Rattle.arena_values.specs.Lies.{Shows}
 use Rattle.placed_frames.proofs.Laws.{registers_of, bank_of}
 use Rattle.placed_frames.specs.Places.{words}
 use Rattle.placed_frames.specs.Frames.{HasFrame, HasFrames, HasWaiting, Running, Waits, saved_at, words_at, writes_at}
+use Rattle.thumb_emit.specs.Joined.{condition_of}
+use Rattle.thumb_emit.proofs.Laws.{joined_after}
 use Rattle.emit_simulation.proofs.Laid.{Fm, over, Laid, IsEven, step_of, store_of}
 use Rattle.emit_simulation.specs.Starts.{start}
 use Rattle.emit_simulation.specs.Ties.{IsAt, AtEntry, AtOp, IsShared, IsImage, Means, spots, place_in, place_at, return_in, return_to, frame_of, frames_of, calls_at, calling_of, stack_end}
@@ -108,6 +110,7 @@ module _ (C : FlatCode) (placed : List Placed) (flash : List ℕ) (a : Addresses
         → IsEven (p.behind i)
     pub writes_to : writes op ≡ Some to
     pub on : Contains (goes_on k op) (suc k)
+    pub apart : (when : ℕ) → condition_of when op ≡ None
 
   call_pieces : (fn : Function) (place : ℕ → Place) (k to g : ℕ) (args : List ℕ) → Calls fn place k (Call to g args) to
   call_pieces fn place k to g args =
@@ -124,6 +127,7 @@ module _ (C : FlatCode) (placed : List Placed) (flash : List ℕ) (a : Addresses
         even = λ p pieces base i l s. l.behind_call i g s;
         writes_to = refl;
         on = (0, omega arith, refl);
+        apart = λ when. refl;
       }
 
   slot_pieces : (fn : Function) (place : ℕ → Place) (k to slot : ℕ) (args : List ℕ) → Calls fn place k (CallSlot to slot args) to
@@ -141,6 +145,7 @@ module _ (C : FlatCode) (placed : List Placed) (flash : List ℕ) (a : Addresses
         even = λ p pieces base i l s. l.behind_plain i (Blx 1) s;
         writes_to = refl;
         on = (0, omega arith, refl);
+        apart = λ when. refl;
       }
 
   module _ (p : Placed) (f : FlatFrame) (callers : List FlatFrame) (base : ℕ) (c : Fiber) (used : ℕ) (h : FlatHeap) (t : Shared) (from : ℕ)
@@ -305,7 +310,7 @@ module _ (C : FlatCode) (placed : List Placed) (flash : List ℕ) (a : Addresses
         let f' = given to (f.temps from) fr in
         wider C placed flash a texts (8 + cost (lands fn b3 (place to))) (op_instructions (Return from)) used h t (Goes (Stands f' fs base) h) c t (omega arith)
         (makes_reach C placed flash a texts used (3 + step_of (lands fn b3 (place to))) (8 + cost (lands fn b3 (place to))) h h t c t q3 m3 (Stands f' fs base) (omega arith) sh.0 whole
-        (AtOp pr f' fs base (fiber_of q3 m3) (record {
+        (AtOp pr f' fs base (fiber_of q3 m3) (joined_after fn fr.place op e' cs.apart) (record {
           there = there;
           running = run';
           registers = landed_low fn b3 (place to) w v y.low;

@@ -35,6 +35,7 @@ use Rattle.thumb_emit.specs.Bounds.{op_instructions, total_cost}
 use Rattle.placed_frames.proofs.Laws.{View, with_low, Quiet}
 use Rattle.arena_values.specs.Lies.{Shows}
 use Rattle.arena_values.proofs.Laws.{answer_reads}
+use Rattle.thumb_emit.proofs.Laws.{joined_after}
 use Rattle.emit_simulation.proofs.Laid.{OfInstr, Flows, AllFlow, store_of}
 use Rattle.emit_simulation.specs.Starts.{start}
 use Rattle.emit_simulation.specs.Ties.{IsAt, IsTied, IsShared, IsImage, Means, ties, spots}
@@ -178,7 +179,7 @@ module _ (C : FlatCode) (placed : List Placed) (flash : List ℕ) (a : Addresses
         let va : View = record v { arena = ar } in
         let u : View = record v { low = low'; flags = flags'; arena = ar } in
         let r = put_behind C placed flash a texts image p f callers base c used h t op e x sh to default 0 pre xs va u
-        held.got.comes.link used' t.free (w ∙ split front (xs ++ put ∷ []) (Plain (Svc number))) refl (0, omega arith, refl) its_names
+        held.got.comes.link used' t.free (w ∙ split front (xs ++ put ∷ []) (Plain (Svc number))) refl ((0, omega arith, refl), joined_after p.function f.place op e (λ when. refl)) its_names
         fl its_length (es ∙ held.store) lw r (refl, omega arith) few in
         let pc : spot.behind (first C placed flash a texts image p f callers base c used h t op e x sh + count) ≡ spot.at
         (first C placed flash a texts image p f callers base c used h t op e x sh + length pre) = behind_svc C placed flash a texts image p f callers base
@@ -224,7 +225,7 @@ module _ (C : FlatCode) (placed : List Placed) (flash : List ℕ) (a : Addresses
         tied_now C placed flash a texts h asking_shared (Stands (given to default f) callers base) asking_fiber
         (stands_behind_service C placed flash a texts image p f callers base c used h t op e x sh count number to v held.got.comes.link svc_at
         (piece_at (Plain (Svc number) ∷ put ∷ []) w 1 (idle_piece p.function) (ap (λ b. Some (lands p.function b (place_of p.places to))) u)) (omega arith) u refl
-        (0, omega arith, refl) its_names held.store held.low its_length)
+        ((0, omega arith, refl), joined_after p.function f.place op e (λ when. refl)) its_names held.store held.low its_length)
     lagging_on false u =
         let n = front_length 0 args in
         let w = whole u in
@@ -233,7 +234,7 @@ module _ (C : FlatCode) (placed : List Placed) (flash : List ℕ) (a : Addresses
         lags C placed flash a texts image p f callers base c used h t op e x sh count number to v held.got.comes.link h asking_shared svc_at
         (piece_at ys w 1 _ refl) (ap (slice_get (pieces C placed flash a texts image p f callers base c used h t op e x sh))
         (let z : count + 1 + 1 ≡ count + 2 = omega arith in z) ∙ piece_at ys w 2 _ (ap (λ b. Some (lands p.function b (place_of p.places to))) u)) (omega arith) refl
-        (0, omega arith, refl) its_names held.store held.low its_length
+        ((0, omega arith, refl), joined_after p.function f.place op e (λ when. refl)) its_names held.store held.low its_length
 
     pub goes_lagging : Going (ties C placed flash a) used h t (Stands (given to default f) callers base, h) (asking_fiber, asking_shared)
     goes_lagging = record {
@@ -268,7 +269,7 @@ module _ (C : FlatCode) (placed : List Placed) (flash : List ℕ) (a : Addresses
         let u = with_low 0 w v in
         let lw = held.low in
         let r = put_behind C placed flash a texts image p f callers base c used h t op e x sh to (Whole (to_int32 z)) w pre [] u u held.got.comes.link used
-        t.free (whole_answer ∙ split front (put ∷ []) (Plain (Svc number))) refl (0, omega arith, refl) its_names
+        t.free (whole_answer ∙ split front (put ∷ []) (Plain (Svc number))) refl ((0, omega arith, refl), joined_after p.function f.place op e (λ when. refl)) its_names
         refl its_length (store_low 0 w v (omega arith) ∙ held.store) (length-set v.low 0 w ∙ held.low) (λ q. get_or-set_same v.low 0 w 0 (omega arith))
         (answer_reads z) (omega arith) in
         let pc : spot.behind (first C placed flash a texts image p f callers base c used h t op e x sh + count) ≡ spot.at

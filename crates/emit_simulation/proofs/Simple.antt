@@ -21,6 +21,7 @@ use Rattle.thumb_emit.specs.Ready.{HasNumber}
 use Rattle.thumb_emit.specs.InFlash.{Addresses}
 use Rattle.thumb_emit.proofs.Laws.{text_named}
 use Rattle.placed_frames.proofs.Laws.{View, with_low}
+use Rattle.thumb_emit.proofs.Laws.{joined_after}
 use Rattle.emit_simulation.proofs.Laid.{loaded_flags, OfNumber, OfAddress}
 use Rattle.emit_simulation.specs.Ties.{IsImage, Means, bodies, spots, place_in, return_to, frames_of}
 use Rattle.emit_simulation.proofs.AtOps.{view_in}
@@ -49,7 +50,7 @@ module _ (C : FlatCode) (placed : List Placed) (flash : List ℕ) (a : Addresses
       let r = result_in (is_unread p.function f.place) (place_of p.places to) in
       let u : View = record v { low = slice_set v.low r w; flags = loaded_flags v.flags w } in
       straight_gives C placed flash a texts image p f callers base c used h t (Const to value) e x sh to (Whole value) w u (Number r w ∷ []) refl
-      (u, OfNumber r w v, refl) (omega arith) refl (0, omega arith, refl) lt
+      (u, OfNumber r w v, refl) (omega arith) refl ((0, omega arith, refl), joined_after p.function f.place (Const to value) e (λ when. refl)) lt
       (result_set r w v v u (made_small p.function (is_unread p.function f.place) (place_of p.places to) ((k.within_function).inside to lt)) refl rg refl refl)
       (sym (to_z-of_z w32 value fits), lw) refl refl
 
@@ -70,7 +71,7 @@ module _ (C : FlatCode) (placed : List Placed) (flash : List ℕ) (a : Addresses
       let y = copied flash (spots C placed flash a f.function p) p.function (is_unread p.function f.place) (place_of p.places to) (place_of p.places from) w v (fw.inside to lt) (fw.inside from lf)
       room rg refl lw in
       straight_puts C placed flash a texts image p f callers base c used h t (Copy to from) e x sh to (f.temps from) w y.seen y.flow y.some refl
-      (0, omega arith, refl) lt y.store y.low
+      ((0, omega arith, refl), joined_after p.function f.place (Copy to from) e (λ when. refl)) lt y.store y.low
       (word_means C placed flash a texts image p f callers base c used h t (Copy to from) e x sh from lf (0, omega arith, refl)) y.globals y.arena
 
   -- A TEXT
@@ -84,7 +85,7 @@ module _ (C : FlatCode) (placed : List Placed) (flash : List ℕ) (a : Addresses
       let r = result_in (is_unread p.function f.place) (place_of p.places to) in
       straight_gives C placed flash a texts image p f callers base c used h t (TextOf to text) e x sh to (Text text) w (with_low r w v)
       (Address r (TextAt text) ∷ []) refl
-      (with_low r w v, OfAddress r (TextAt text) v, refl) (omega arith) refl (0, omega arith, refl) lt
+      (with_low r w v, OfAddress r (TextAt text) v, refl) (omega arith) refl ((0, omega arith, refl), joined_after p.function f.place (TextOf to text) e (λ when. refl)) lt
       (result_set r w v v (with_low r w v) (made_small p.function (is_unread p.function f.place) (place_of p.places to) ((k.within_function).inside to lt)) refl rg refl refl) (
         record {
           function = f.function;
@@ -106,6 +107,6 @@ module _ (C : FlatCode) (placed : List Placed) (flash : List ℕ) (a : Addresses
       let r = result_in (is_unread p.function f.place) (place_of p.places to) in
       straight_gives C placed flash a texts image p f callers base c used h t (HandlerOf to g) e x sh to (Code g) w (with_low r w v)
       (Address r (FunctionOf g) ∷ []) refl
-      (with_low r w v, OfAddress r (FunctionOf g) v, refl) (omega arith) refl (0, omega arith, refl) lt
+      (with_low r w v, OfAddress r (FunctionOf g) v, refl) (omega arith) refl ((0, omega arith, refl), joined_after p.function f.place (HandlerOf to g) e (λ when. refl)) lt
       (result_set r w v v (with_low r w v) (made_small p.function (is_unread p.function f.place) (place_of p.places to) ((k.within_function).inside to lt)) refl rg refl refl)
       (k.parts, refl) refl refl

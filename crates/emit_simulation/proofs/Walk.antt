@@ -24,7 +24,6 @@ use Rattle.register_assign.specs.Unread.{is_unread}
 use Rattle.flat_meaning.specs.Frames.{FlatFrame, Stands, given}
 use Rattle.flat_meaning.specs.Frames.{going_on_at as placed_at}
 use Rattle.flat_ir.specs.Ops.{reads, writes}
-use Rattle.flat_ir.specs.Ops.{goes_on as goes_on_at}
 use Rattle.flat_ir.specs.WellFormed.{temporaries}
 use Rattle.sts_meaning.specs.Values.{Value, with_entry}
 use Rattle.sts_meaning.specs.Heaps.{FlatHeap}
@@ -41,7 +40,7 @@ use Rattle.placed_frames.proofs.Laws.{View, registers_of, bank_of, Quiet, at_vie
 use Rattle.emit_simulation.proofs.Laid.{Flows, OfInstr, OfLabel, step_of, store_of, over}
 use Rattle.emit_simulation.specs.Starts.{start}
 use Rattle.emit_simulation.specs.Ties.{IsAt, IsShared, IsImage, Means, spots, place_in, return_to, frames_of}
-use Rattle.emit_simulation.proofs.AtOps.{view_in, bank_in, shared_seen}
+use Rattle.emit_simulation.proofs.AtOps.{GoesOn, view_in, bank_in, shared_seen}
 use Rattle.emit_simulation.proofs.Flowing.{flows_one, then, branches, passes_by}
 use Rattle.emit_simulation.proofs.Turns.{Owed, Asking, asking, makes_panic}
 use Rattle.emit_simulation.proofs.Ops.{Reached, here, pc_behind, wider, goes_to, runs_same, word, word_means, word_small, brings_word}
@@ -223,7 +222,7 @@ module _ (C : FlatCode) (placed : List Placed) (flash : List ℕ) (a : Addresses
   pub finished : (i most bound to w : ℕ) (value : Value) (h' : FlatHeap) (m u : View) (y : Instr) → Got i most m → slice_get pieces i ≡ Some (Plain y)
       → Flows flash spot (Plain y) m u
       → slice_get pieces (i + 1) ≡ Some (keeps p.function (is_unread p.function f.place) (place_of p.places to)) → length pieces ≡ i + 1 + 1
-      → writes op ≡ Some to → Contains (goes_on_at f.place op) (suc f.place) → to < temporaries p.function
+      → writes op ≡ Some to → GoesOn p.function f.place op → to < temporaries p.function
       → StandsIn (result_in (is_unread p.function f.place) (place_of p.places to)) w (view_in c t) u → Means C placed flash a value w
       → IsShared C placed flash a used h' (shared_seen used u t.free) → most + 4 ≤ bound → Owed C placed flash a texts bound used h t
       (GoesTurn (Stands (given to value f) callers base) h') c t
@@ -250,30 +249,30 @@ module _ (C : FlatCode) (placed : List Placed) (flash : List ℕ) (a : Addresses
       wider C placed flash a texts (most + 2 + cost kept) bound used h t (GoesTurn (Stands (given to value f) callers base) h') c t (omega arith)
       (goes_to C placed flash a texts image p f callers base c used h t op e x sh (g.least + 1 + step_of kept) (most + 2 + cost kept) (first + (i + 1 + 1)) (f.place + 1) v
       (with_entry to value f.temps) h' (omega arith) (step (i + 1) (most + 2) u v kept g1 q last)
-      (ap (λ j. first + j) (sym n) ∙ sym k.next)
+      (ap (λ j. first + j) (sym n) ∙ sym k.next) on.1
       (runs_with flash spot (Means C placed flash a) (small C placed flash a texts image) C.functions (place_in C placed flash a) (return_to C placed flash a)
       p.function place fw.inside
       (λ u. IsLiveAt p.function.ops u f.place) f.temps (frames_of callers) (view_in c t) x.running (is_unread p.function f.place) (λ u. IsLiveAt p.function.ops u (f.place + 1)) to w value v
-      lt (store_kept p.function (is_unread p.function f.place) (place to) w (view_in c t) u (fw.inside to lt) x.registers r) m (λ q live. k.unread to (suc f.place) q wr on (subst (IsLiveAt p.function.ops to) (sym z) live))
+      lt (store_kept p.function (is_unread p.function f.place) (place to) w (view_in c t) u (fw.inside to lt) x.registers r) m (λ q live. k.unread to (suc f.place) q wr on.0 (subst (IsLiveAt p.function.ops to) (sym z) live))
       (λ m lm d live. (
-        k.kept_live m (suc f.place) on (subst (IsLiveAt p.function.ops m) (sym z) live)
+        k.kept_live m (suc f.place) on.0 (subst (IsLiveAt p.function.ops m) (sym z) live)
             (λ k. d (let b : Some to ≡ Some m = sym wr ∙ k in let b' : m ≡ to = cc in b')),
-        k.apart to m (suc f.place) wr on (subst (IsLiveAt p.function.ops m) (sym z) live) lt lm d,
+        k.apart to m (suc f.place) wr on.0 (subst (IsLiveAt p.function.ops m) (sym z) live) lt lm d,
       )))
       (kept_low p.function (is_unread p.function f.place) (place to) w u r.low) shared)
 
   -- The op's last piece leaves the frames as they are, and what is shared shows a heap.
   pub stored : (i most bound : ℕ) (h' : FlatHeap) (u v : View) (y : Instr) → Got i most u → slice_get pieces i ≡ Some (Plain y) → length pieces ≡ i + 1
       → Flows flash spot (Plain y) u v
-      → ((m : ℕ) → writes op ≢ Some m) → Contains (goes_on_at f.place op) (suc f.place) → store_of v ≡ store_of (view_in c t) → length v.low ≡ 13
+      → ((m : ℕ) → writes op ≢ Some m) → GoesOn p.function f.place op → store_of v ≡ store_of (view_in c t) → length v.low ≡ 13
       → IsShared C placed flash a used h' (shared_seen used v t.free) → most + 2 ≤ bound → Owed C placed flash a texts bound used h t
       (GoesTurn (Stands (placed_at (f.place + 1) f) callers base) h') c t
   stored i most bound h' u v y g q n fl wr on es lw s b =
       let k = here C placed flash a texts image p f callers base c used h t op e x sh in
       wider C placed flash a texts (most + 2) bound used h t (GoesTurn (Stands (placed_at (f.place + 1) f) callers base) h') c t (omega arith)
       (goes_to C placed flash a texts image p f callers base c used h t op e x sh (g.least + 1) (most + 2) (first + (i + 1)) (f.place + 1) v f.temps h'
-      (omega arith) (step i most u v (Plain y) g q fl) (ap (λ j. first + j) (sym n) ∙ sym k.next)
-      (runs_same C placed flash a texts image p f callers base c used h t op e x sh (suc f.place) (f.place + 1) v (omega arith) on wr es) lw s)
+      (omega arith) (step i most u v (Plain y) g q fl) (ap (λ j. first + j) (sym n) ∙ sym k.next) on.1
+      (runs_same C placed flash a texts image p f callers base c used h t op e x sh (suc f.place) (f.place + 1) v (omega arith) on.0 wr es) lw s)
 
   -- An op that begins with an object or array in its register and tests it for null.
   module _ (o : ℕ) (lo : o < temporaries p.function) (ro : Contains (reads op) o)

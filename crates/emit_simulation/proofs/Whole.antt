@@ -1,5 +1,5 @@
 -- From the turns of all ops to the theorem of emission.
-use Rattle.std.proofs.Common.{zero, suc, ◌≡◌, ℕ, ◌+◌, ◌*◌, ◌-◌, ◌<◌, ◌≤◌, ◌^◌, List, [], ◌∷◌, length, Option, Some, None, refl, sym, ◌∙◌, subst, arith, slice_get}
+use Rattle.std.proofs.Common.{zero, suc, ◌≡◌, ℕ, ◌+◌, ◌*◌, ◌-◌, ◌<◌, ◌≤◌, ◌^◌, List, [], ◌∷◌, length, Option, Some, None, refl, sym, ap, ◌∙◌, subst, arith, slice_get}
 use Rattle.thumb_code.specs.RegisterFile.{word}
 use Rattle.thumb_code.specs.Step.{fetched}
 use Rattle.board_world.specs.Observations.{ByteList}
@@ -11,25 +11,27 @@ use Rattle.bank_model.specs.Fibers.{Fiber, Shared, begins, begins_on}
 use Rattle.bank_model.specs.BoardMachine.{fibers, memory_of}
 use Rattle.thumb_layout.proofs.Laws.{reaches_none, ComesSilently}
 use Rattle.flat_ir.specs.declared.ops.Op.{Op}
+use Rattle.flat_ir.specs.declared.ops.Op.TheVariants.{Branch}
 use Rattle.flat_ir.specs.declared.ops.Function.{Function}
 use Rattle.flat_ir.specs.declared.ops.FlatCode.{FlatCode}
 use Rattle.register_assign.specs.declared.places.Placed.{Placed}
 use Rattle.sts_syntax.specs.TypeRules.{entry}
 use Rattle.sts_meaning.specs.Heaps.{FlatHeap}
-use Rattle.flat_meaning.specs.Frames.{FlatActivity, Enters, op_of}
+use Rattle.flat_meaning.specs.Frames.{FlatActivity, Enters, op_of, op_at}
 use Rattle.flat_meaning.specs.Steps.{flat, step, act_at, called}
 use Rattle.sts_implements.specs.Passes.{trailing_instructions, Emits}
 use Rattle.thumb_emit.specs.Bounds.{op_instructions}
 use Rattle.thumb_emit.specs.InFlash.{Addresses}
 use Rattle.placed_frames.specs.Frames.{AreWords}
 use Rattle.emit_simulation.proofs.Laid.{over}
-use Rattle.emit_simulation.specs.Ties.{IsTied, AtEntry, AtOp, IsShared, IsImage, spots, ties, pending, stack_end}
+use Rattle.emit_simulation.specs.Ties.{IsTied, AtEntry, AtOp, AtBranch, IsShared, IsImage, spots, ties, pending, stack_end}
 use Rattle.emit_simulation.proofs.AtOps.{view_in}
-use Rattle.emit_simulation.proofs.OwedOps.{MakesOp}
+use Rattle.emit_simulation.proofs.OwedOps.{MakesAlone}
 use Rattle.emit_simulation.specs.Weights.{weight_at, weight_of}
 use Rattle.emit_simulation.proofs.Context.{function_at}
 use Rattle.emit_simulation.proofs.Meanings.{function_inside, placed_inside, entry_is}
 use Rattle.emit_simulation.proofs.Turns.{Owed, tied_now}
+use Rattle.emit_simulation.proofs.Control.{joined_makes}
 use Rattle.emit_simulation.proofs.FunctionEntries.{Calling, calls_turn}
 
 -- steps behind others
@@ -58,7 +60,7 @@ begins_at : (at : ℕ) → at < 2 ^ 32 → word (at + 1 + (2 ^ 32 - 1)) ≡ at
 begins_at at l = omega arith
 
 module _ (C : FlatCode) (placed : List Placed) (flash : List ℕ) (a : Addresses) (texts : List ByteList) (image : IsImage C placed flash a texts)
-    (every : (op : Op) → MakesOp C placed flash a texts op) where
+    (every : (op : Op) → MakesAlone C placed flash a texts op) where
   -- AN ACTIVITY BEGINS
   begins_calling : (g base : ℕ) (t : Shared) (pg : Placed) → g < length C.functions → base ≤ depth_limit → slice_get placed g ≡ Some pg
       → Calling C placed flash a (begins_on flash (stack_end - 4 * base) (a.function g + 1)) t g pg [] [] base 0
@@ -102,14 +104,14 @@ module _ (C : FlatCode) (placed : List Placed) (flash : List ℕ) (a : Addresses
             (calls_turn C placed flash a texts image (begins_on flash (stack_end - 4 * base) (a.function g + 1)) t used h t g pg.0 [] [] base 0
             (begins_calling g base t pg.0 l lb pg.1) sh nf),
       )
-  makes used h t _ _ sh (AtOp p f callers base c at) nf =
+  makes used h t _ _ sh (AtOp p f callers base c alone at) nf =
       by_function (entry C.functions f.function) refl nf
     where
       by_op : (o : Option Op) → entry p.function.ops f.place ≡ o → NoFault (act_at C texts h f callers base o)
           → (room : ℕ) × (pending + room + trailing_instructions ≤ weight_at o) × Owed C placed flash a texts room used h t (act_at C texts h f callers base o)
           c t
       by_op None q nf = absurd nf
-      by_op (Some op) q nf = (op_instructions op, omega arith, every op p f callers base c used h t (sym (entry_is p.function.ops f.place) ∙ q) at sh nf)
+      by_op (Some op) q nf = (op_instructions op, omega arith, every op p f callers base c used h t alone (sym (entry_is p.function.ops f.place) ∙ q) at sh nf)
 
       by_function : (o : Option Function) → entry C.functions f.function ≡ o → NoFault (act_at C texts h f callers base (op_of o f.place))
           → (room : ℕ) × (pending + room + trailing_instructions ≤ weight_at (op_of o f.place)) × Owed C placed flash a texts room used h t
@@ -120,6 +122,15 @@ module _ (C : FlatCode) (placed : List Placed) (flash : List ℕ) (a : Addresses
           → (room : ℕ) × (pending + room + trailing_instructions ≤ weight_at (op_of k f.place)) × Owed C placed flash a texts room used h t
           (act_at C texts h f callers base (op_of k f.place)) c t) e
           (λ n. by_op (entry p.function.ops f.place) refl n) nf
+  makes used h t _ _ sh (AtBranch p f callers base when target condition c there joins says at) nf =
+      let e : op_at C f ≡ Some (Branch when target) = ap (λ (k : Option Function). op_of k f.place)
+      (entry_is C.functions f.function ∙ function_at C placed flash a texts image f.function p at.there) ∙ (entry_is p.function.ops f.place ∙ there) in
+      subst (λ (o : Option Op). (room : ℕ) × (pending + room + trailing_instructions ≤ weight_at o) × Owed C placed flash a texts room used h t
+      (act_at C texts h f callers base o) c t) (sym e) (
+        op_instructions (Branch when target),
+        omega arith,
+        joined_makes C placed flash a texts image p f callers base when target condition c used h t there joins at sh says,
+      )
 
   -- THE THEOREM OF EMISSION, from the turns of all ops
   pub emits_by : Emits (flat C texts) flash (ties C placed flash a) (weight_of C)

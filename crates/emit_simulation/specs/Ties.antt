@@ -1,5 +1,6 @@
 -- What ties an activity of flat code to a fiber over a flash that shows the code.
-use Rattle.std.specs.Prelude.{◌≡◌, ℕ, ◌+◌, ◌-◌, ◌*◌, ◌<◌, ◌≤◌, List, [], ◌∷◌, length, map, Option, Some, None, slice_get, slice_index}
+use Rattle.std.specs.Prelude.{◌≡◌, ◌≢◌, ℕ, ◌+◌, ◌-◌, ◌*◌, ◌<◌, ◌≤◌, List, [], ◌∷◌, length, map, Option, Some, None, slice_get, slice_index}
+use Rattle.thumb_code.specs.Arithmetic.{holds}
 use Rattle.thumb_code.specs.Machine.{return_of}
 use Rattle.board_world.specs.Observations.{ByteList}
 use Rattle.board_world.specs.Limits.{depth_limit}
@@ -11,7 +12,7 @@ use Rattle.thumb_layout.specs.declared.pieces.Piece.{Piece}
 use Rattle.thumb_layout.specs.Pieces.{Places}
 use Rattle.thumb_layout.specs.Flash.{places}
 use Rattle.flat_ir.specs.declared.ops.Op.{Op}
-use Rattle.flat_ir.specs.declared.ops.Op.TheVariants.{Call, CallSlot}
+use Rattle.flat_ir.specs.declared.ops.Op.TheVariants.{Call, CallSlot, Branch}
 use Rattle.flat_ir.specs.declared.ops.FlatCode.{FlatCode}
 use Rattle.flat_ir.specs.WellFormed.{IsWellFormed}
 use Rattle.flat_ir.specs.Liveness.{IsLiveAt}
@@ -19,7 +20,7 @@ use Rattle.register_assign.specs.declared.places.Place.{Place}
 use Rattle.register_assign.specs.declared.places.Place.TheVariants.{Reg}
 use Rattle.register_assign.specs.declared.places.Placed.{Placed}
 use Rattle.register_assign.specs.Sound.{place_of}
-use Rattle.sts_meaning.specs.Values.{Value}
+use Rattle.sts_meaning.specs.Values.{Value, Gives, decided}
 use Rattle.sts_meaning.specs.Heaps.{FlatHeap}
 use Rattle.flat_meaning.specs.Frames.{FlatFrame, FlatActivity, Enters, Stands}
 use Rattle.placed_frames.specs.Places.{Store}
@@ -27,6 +28,7 @@ use Rattle.placed_frames.specs.Frames.{Frame, Running}
 use Rattle.arena_values.specs.Words.{Is}
 use Rattle.arena_values.specs.Lies.{Shows}
 use Rattle.thumb_emit.specs.Emit.{function_pieces}
+use Rattle.thumb_emit.specs.Joined.{joined_by}
 use Rattle.thumb_emit.specs.InFlash.{Addresses, callee_at, word_for, IsNamed, InFlash}
 use Rattle.thumb_emit.specs.Ready.{IsReady, HasNumbers}
 use Rattle.emit_simulation.specs.Starts.{start}
@@ -115,13 +117,21 @@ module _ (C : FlatCode) (placed : List Placed) (flash : List ℕ) (a : Addresses
     pub sp_is : c.registers.sp + 4 * length c.bank ≡ c.base
     pub deep : base + length c.bank ≤ depth_limit
 
-  -- An activity begins as its fiber does; or it stands at an op, with what is live there.
+  -- An activity begins as its fiber does; or it stands at an op, with what is live there; or at a branch that is joined with the comparison
+  -- before it, and the flags say what it tests, which is in no place.
   pub data IsTied : FlatActivity → Fiber → Type 0 where
     AtEntry : (f base : ℕ) (c : Fiber) → f < length C.functions → base ≤ depth_limit
         → c ≡ begins_on flash (stack_end - 4 * base) (a.function f + 1)
         → IsTied (Enters f base) c
     AtOp : (p : Placed) (f : FlatFrame) (callers : List FlatFrame) (base : ℕ) (c : Fiber)
+        → joined_by p.function f.place ≡ None
         → IsAt p (λ t. IsLiveAt p.function.ops t f.place) f callers base
+        (start p.function (place_of p.places) f.place) c → IsTied (Stands f callers base) c
+    AtBranch : (p : Placed) (f : FlatFrame) (callers : List FlatFrame) (base when target condition : ℕ) (c : Fiber)
+        → slice_get p.function.ops f.place ≡ Some (Branch when target)
+        → joined_by p.function f.place ≡ Some condition
+        → decided (f.temps when) ≡ Gives (holds c.registers.flags condition)
+        → IsAt p (λ t. IsLiveAt p.function.ops t f.place × (t ≢ when)) f callers base
         (start p.function (place_of p.places) f.place) c → IsTied (Stands f callers base) c
 
   -- the used words, and globals and arena, show the heap

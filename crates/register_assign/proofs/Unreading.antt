@@ -9,12 +9,13 @@ use Rattle.std.proofs.lemmas.Option.{slice_get_within}
 use Rattle.std.proofs.lemmas.Bool.{or_cases, and_parts, and_from, or_left, or_right, not-true, not_from_false, cases_eq, false_from_ne_true, both_ways}
 use lib.ListN.{replicate}
 use Rattle.flat_ir.specs.declared.ops.Op.{Op}
+use Rattle.flat_ir.specs.declared.ops.Op.TheVariants.{Const, Copy, Unary, Binary, GlobalGet, GlobalSet, FieldGet, FieldSet, ItemGet, ItemSet, Length, Pop, TextOf, MakeObject, MakeArray, Call, CallSlot, HandlerOf, Ask, Jump, Branch, Return}
 use Rattle.flat_ir.specs.declared.ops.Function.{Function}
 use Rattle.flat_ir.specs.Ops.{reads, writes, goes_on}
 use Rattle.flat_ir.specs.WellFormed.{temporaries, IsWellFormedFunction, NamesBelow}
 use Rattle.flat_ir.specs.Liveness.{IsLiveAt, is_read, is_kept}
 use Rattle.register_assign.specs.Marks.{is_among, is_the, is_marked, any_marked, AreMarks}
-use Rattle.register_assign.specs.Unread.{is_read_by, is_read_within, is_left, is_left_by, is_unread_of, is_unread, HasDeadResult, AreNoted, AreNotedAnew}
+use Rattle.register_assign.specs.Unread.{is_read_by, is_read_within, is_left, is_left_by, written_or_tested, is_unread_of, is_unread, HasDeadResult, AreNoted, AreNotedAnew}
 use Rattle.register_assign.proofs.Marking.{among_contains, contains_among, the_true, the_some, none_marked}
 
 -- a test that one of some places passes
@@ -200,7 +201,7 @@ same_op : (ops : List Op) (at : ℕ) (a b : Op) → slice_get ops at ≡ Some a 
 same_op ops at a b p q = let e : Some a ≡ Some b = sym p ∙ q in cc
 
 pub noted_here : (ops : List Op) (t at : ℕ) (op : Op) (marks old new : List Bool) → slice_get ops at ≡ Some op → AreMarks ops t marks → length old ≡ length ops
-    → is_the t (writes op) ≡ true → AreNotedAnew ops t at old new → AreNotedAnew ops t (at + 1) old (slice_set new at (not (any_marked marks (goes_on at op))))
+    → is_the t (written_or_tested op) ≡ true → AreNotedAnew ops t at old new → AreNotedAnew ops t (at + 1) old (slice_set new at (not (any_marked marks (goes_on at op))))
 noted_here ops t at op marks old new g m n w h =
     let v = not (any_marked marks (goes_on at op)) in
     let lo = h.long in
@@ -216,20 +217,20 @@ noted_here ops t at op marks old new g m n w h =
       others = λ k o q e. elim (cases_eq k at) [
         | inl s ↦
             let so : o ≡ op = same_op ops at o op (ap (slice_get ops) (sym s) ∙ q) g in
-            let f : is_the t (writes op) ≡ false = ap (λ z. is_the t (writes z)) (sym so) ∙ e in
+            let f : is_the t (written_or_tested op) ≡ false = ap (λ z. is_the t (written_or_tested z)) (sym so) ∙ e in
             absurd (let y : true ≡ false = sym w ∙ f in cc)
         | inr d ↦ get_or-set_other new at k v false d ∙ h.others k o q e
       ];
     }
 
-pub noted_past : (ops : List Op) (t at : ℕ) (op : Op) (old new : List Bool) → slice_get ops at ≡ Some op → is_the t (writes op) ≡ false → AreNotedAnew ops t at old new
+pub noted_past : (ops : List Op) (t at : ℕ) (op : Op) (old new : List Bool) → slice_get ops at ≡ Some op → is_the t (written_or_tested op) ≡ false → AreNotedAnew ops t at old new
     → AreNotedAnew ops t (at + 1) old new
 noted_past ops t at op old new g w h = record {
   long = h.long;
   noted = λ k o b q e. elim (cases_eq k at) [
     | inl s ↦
         let so : o ≡ op = same_op ops at o op (ap (slice_get ops) (sym s) ∙ q) g in
-        let f : is_the t (writes op) ≡ true = ap (λ z. is_the t (writes z)) (sym so) ∙ e in
+        let f : is_the t (written_or_tested op) ≡ true = ap (λ z. is_the t (written_or_tested z)) (sym so) ∙ e in
         absurd (let y : true ≡ false = sym f ∙ w in cc)
     | inr d ↦ h.noted k o (omega arith) q e
   ];
@@ -249,23 +250,61 @@ noted_more ops n old new h k = record {
   long = k.long ∙ h.long;
   noted = λ at t op g w l. elim (cases_eq t n) [
     | inl s ↦
-        k.noted at op (slice_get_within ops at op g) g (the_some n (writes op) (w ∙ ap Some s)) ∙ ap (is_left ops at op) (sym s)
+        k.noted at op (slice_get_within ops at op g) g (the_some n (written_or_tested op) (w ∙ ap Some s)) ∙ ap (is_left ops at op) (sym s)
     | inr d ↦ k.others at op g (other op t w d) ∙ h.noted at t op g w (omega arith)
   ];
-  others = λ at op g b. k.others at op g (false_from_ne_true (is_the n (writes op)) (λ e. let q = b n (the_true n (writes op) e) in absurd (omega arith)))
+  others = λ at op g b. k.others at op g (false_from_ne_true (is_the n (written_or_tested op)) (λ e. let q = b n (the_true n (written_or_tested op) e) in absurd (omega arith)))
       ∙ h.others at op g (λ t w. let q = b t w in omega arith);
 }
   where
-    other : (op : Op) (t : ℕ) → writes op ≡ Some t → (t ≡ n → ⊥) → is_the n (writes op) ≡ false
-    other op t w d = false_from_ne_true (is_the n (writes op)) (λ e. (let z : Some t ≡ Some n = sym w ∙ the_true n (writes op) e in d (cc)))
+    other : (op : Op) (t : ℕ) → written_or_tested op ≡ Some t → (t ≡ n → ⊥) → is_the n (written_or_tested op) ≡ false
+    other op t w d = false_from_ne_true (is_the n (written_or_tested op)) (λ e. (let z : Some t ≡ Some n = sym w ∙ the_true n (written_or_tested op) e in d (cc)))
 
--- the temporary that an op writes is one of the function's
-written_below : (op : Op) (t n : ℕ) → writes op ≡ Some t → NamesBelow n op → t < n
-written_below op t n w names = by (writes op) w names
+-- an op handles what it writes; a branch handles what it reads
+handled_is : (op : Op) → (written_or_tested op ≡ writes op) ⊎ ((t : ℕ) × (written_or_tested op ≡ Some t) × (option_to_list (writes op) ++ reads op ≡ t ∷ []) × (writes op ≡ None))
+handled_is (Branch when target) = inr (when, refl, refl, refl)
+handled_is (Const to value) = inl refl
+handled_is (Copy to from) = inl refl
+handled_is (Unary to o from) = inl refl
+handled_is (Binary to o left right) = inl refl
+handled_is (GlobalGet to slot) = inl refl
+handled_is (GlobalSet slot from) = inl refl
+handled_is (FieldGet to object field) = inl refl
+handled_is (FieldSet object field from) = inl refl
+handled_is (ItemGet to array index) = inl refl
+handled_is (ItemSet array index from) = inl refl
+handled_is (Length to array) = inl refl
+handled_is (Pop to array) = inl refl
+handled_is (TextOf to text) = inl refl
+handled_is (MakeObject to class) = inl refl
+handled_is (MakeArray to room) = inl refl
+handled_is (Call to function args) = inl refl
+handled_is (CallSlot to slot args) = inl refl
+handled_is (HandlerOf to function) = inl refl
+handled_is (Ask to service args) = inl refl
+handled_is (Jump target) = inl refl
+handled_is (Return from) = inl refl
+
+-- a temporary that an op handles is one of the function's
+handled_below : (op : Op) (t n : ℕ) → written_or_tested op ≡ Some t → NamesBelow n op → t < n
+handled_below op t n w names = elim (handled_is op) [
+  | inl e ↦ by (writes op) (sym e ∙ w) names
+  | inr d ↦
+      let z : Some d.0 ≡ Some t = sym d.1 ∙ w in
+      let q : d.0 ≡ t = cc in
+      let h : AllByRecursion (λ u. u < n) (d.0 ∷ []) = subst (AllByRecursion (λ u. u < n)) d.2 names in subst (λ m. m < n) q h.0
+]
   where
     by : (o : Option ℕ) → o ≡ Some t → AllByRecursion (λ u. u < n) (option_to_list o ++ reads op) → t < n
     by None q h = absurd (cc)
     by (Some u) q h = (let z : u ≡ t = cc in subst (λ m. m < n) z h.0)
+
+-- what it writes it handles
+handled_written : (op : Op) (t : ℕ) → writes op ≡ Some t → written_or_tested op ≡ Some t
+handled_written op t w = elim (handled_is op) [
+  | inl e ↦ e ∙ w
+  | inr d ↦ let n = d.3 in absurd (let z : None ≡ Some t = sym n ∙ w in cc)
+]
 
 all_at : (P : Op → Type 0) (xs : List Op) → AllByRecursion P xs → (k : ℕ) (x : Op) → slice_get xs k ≡ Some x → P x
 all_at P [] a k x g = absurd (cc)
@@ -282,26 +321,26 @@ pub noted_last : (f : Function) (notes : List Bool) → IsWellFormedFunction f �
 unfolding is_unread
 noted_last f notes w h at = by (slice_get f.ops at) refl
   where
-    to : (op : Op) → slice_get f.ops at ≡ Some op → (o : Option ℕ) → writes op ≡ o → is_marked notes at ≡ is_left_by f.ops at op o
+    to : (op : Op) → slice_get f.ops at ≡ Some op → (o : Option ℕ) → written_or_tested op ≡ o → is_marked notes at ≡ is_left_by f.ops at op o
     to op g None e = h.others at op g (λ t q. absurd (let z : None ≡ Some t = sym e ∙ q in cc))
-    to op g (Some t) e = h.noted at t op g e (written_below op t (temporaries f) e (all_at _ f.ops w.ops at op g).names)
+    to op g (Some t) e = h.noted at t op g e (handled_below op t (temporaries f) e (all_at _ f.ops w.ops at op g).names)
 
     by : (o : Option Op) → slice_get f.ops at ≡ o → is_marked notes at ≡ is_unread_of f.ops at o
     by None g = none_past notes f.ops at h.long g
-    by (Some op) g = to op g (writes op) refl
+    by (Some op) g = to op g (written_or_tested op) refl
 
 -- IT IS DEAD, and what is dead is unread
 dead_of : (f : Function) (at : ℕ) (o : Option Op) → slice_get f.ops at ≡ o → is_unread_of f.ops at o ≡ true → HasDeadResult f at
 dead_of f at None g e = absurd (cc)
-dead_of f at (Some op) g e = by (writes op) refl e
+dead_of f at (Some op) g e = by (written_or_tested op) refl e
   where
-    by : (w : Option ℕ) → writes op ≡ w → is_left_by f.ops at op w ≡ true → HasDeadResult f at
+    by : (w : Option ℕ) → written_or_tested op ≡ w → is_left_by f.ops at op w ≡ true → HasDeadResult f at
     by None q h = absurd (cc)
     by (Some to) q h = record {
       op = op;
       to = to;
       there = g;
-      writes_to = q;
+      handles = q;
       dead = λ l.
           let so = same_op f.ops at l.0 op l.2 g in
           let i : Contains (goes_on at op) l.1 = subst (λ (z : Op). Contains (goes_on at z) l.1) so l.3 in
@@ -314,21 +353,25 @@ unread_of f at d =
     let p = is_read_within (length f.ops) f.ops d.to in
     let n : list_any p (goes_on at d.op) ≡ false = false_from_ne_true (list_any p (goes_on at d.op)) (λ e. let c = any_contains p (goes_on at d.op) e in
     d.dead (d.op, c.0, d.there, c.1, within_live f.ops d.to (length f.ops) c.0 c.2)) in
-    ap (is_unread_of f.ops at) d.there ∙ (ap (is_left_by f.ops at d.op) d.writes_to ∙ not_from_false (list_any p (goes_on at d.op)) n)
+    ap (is_unread_of f.ops at) d.there ∙ (ap (is_left_by f.ops at d.op) d.handles ∙ not_from_false (list_any p (goes_on at d.op)) n)
 
 pub unread_dead : (f : Function) (at : ℕ) → (is_unread f at ≡ true) ↔ HasDeadResult f at
 unfolding is_unread
 unread_dead f at = (λ e. dead_of f at (slice_get f.ops at) refl e, λ d. unread_of f at d)
 
--- what an op's unread result isn't: live where a run goes on
-pub unread_not_live : (f : Function) (at to next : ℕ) (op : Op) → is_unread f at ≡ true → slice_get f.ops at ≡ Some op → writes op ≡ Some to → Contains (goes_on at op) next
+-- what an op's unread result isn't, nor what a branch tests that nobody reads again: live where a run goes on
+pub handled_not_live : (f : Function) (at to next : ℕ) (op : Op) → is_unread f at ≡ true → slice_get f.ops at ≡ Some op → written_or_tested op ≡ Some to → Contains (goes_on at op) next
     → IsLiveAt f.ops to next → ⊥
-unread_not_live f at to next op e g w i l =
+handled_not_live f at to next op e g w i l =
     let d = (unread_dead f at).0 e in
     let so = same_op f.ops at d.op op d.there g in
-    let z : Some d.to ≡ Some to = sym d.writes_to ∙ (ap writes so ∙ w) in
+    let z : Some d.to ≡ Some to = sym d.handles ∙ (ap written_or_tested so ∙ w) in
     let q : d.to ≡ to = cc in
     d.dead (op, next, g, i, subst (λ u. IsLiveAt f.ops u next) (sym q) l)
+
+pub unread_not_live : (f : Function) (at to next : ℕ) (op : Op) → is_unread f at ≡ true → slice_get f.ops at ≡ Some op → writes op ≡ Some to → Contains (goes_on at op) next
+    → IsLiveAt f.ops to next → ⊥
+unread_not_live f at to next op e g w i l = handled_not_live f at to next op e g (handled_written op to w) i l
 
 -- a list that was written over all of another
 pub taken : (n : ℕ) (xs ys : List Bool) → length xs ≡ n → length ys ≡ n → take n (xs ++ drop (length xs) ys) ≡ xs

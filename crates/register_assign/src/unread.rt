@@ -1,23 +1,33 @@
-// Which results nobody reads.
+// Which results nobody reads, and which conditions nobody reads again.
 ghost use Rattle.std.specs.Prelude.{◌≡◌, ℕ, ◌↔◌, true, length, IfOk, OnOk};
 ghost use Rattle.flat_ir.specs.declared.ops.Function.{Function};
 ghost use Rattle.flat_ir.specs.WellFormed.{IsWellFormedFunction, temporaries};
-ghost use Rattle.register_assign.specs.Marks.{is_marked, AreMarks};
-ghost use Rattle.register_assign.specs.Unread.{is_unread, HasDeadResult, AreNoted, AreNotedAnew};
+ghost use Rattle.register_assign.specs.Marks.{is_the, is_marked, AreMarks};
+ghost use Rattle.register_assign.specs.Unread.{written_or_tested, is_unread, HasDeadResult, AreNoted, AreNotedAnew};
 
 use crate::liveness::{is_marked_behind, live, writes};
 use flat_ir::{Function, Op};
 use std::alloc::Global;
 use sts_base::NoMemory;
 
-/// Notes at each op that writes a temporary whether it isn't live behind it.
+/// Whether an op writes a temporary, or is a branch that tests it.
+fn handles(op: &Op, t: usize) -> bool
+    ensures { result ≡ is_the t (written_or_tested op.now) }
+{
+    match op {
+        Op::Branch { when, .. } => *when as usize == t,
+        _ => writes(op, t),
+    }
+}
+
+/// Notes at each op that writes or tests a temporary whether it isn't live after it.
 fn note(ops: &[Op], t: usize, marks: &[bool], notes: &mut [bool])
     requires marks { AreMarks ops.now t marks.now }
     requires long { length notes.old ≡ length ops.now }
     ensures { AreNotedAnew ops.now t (length ops.now) notes.old notes.new }
 {
     for (at, op) in ops.iter().enumerate() {
-        if writes(op, t) {
+        if handles(op, t) {
             notes[at] = !is_marked_behind(op, at, marks);
         }
     }
@@ -37,7 +47,8 @@ fn note_all(alloc: Global, function: &Function, notes: &mut [bool]) -> Result<()
     Ok(())
 }
 
-/// At which ops of a function nobody reads the result: the temporary that the op writes is live at no place where a run goes on.
+/// At which ops of a function nobody reads the result: the temporary that the op writes is live at no place where a run
+/// goes on. Of a branch it is the temporary that it tests.
 ///
 /// `NoMemory` comes only for want of memory.
 pub fn unread_results(alloc: Global, function: &Function) -> Result<Vec<bool>, NoMemory>

@@ -17,7 +17,9 @@ use Rattle.thumb_emit.specs.Frame.{from_instr, to_instr, from_place, register_of
 use Rattle.thumb_emit.specs.Emit.{its_register, bring, made_in, keep, land, passes, loads, op_pieces, unless, unequal, below_unsigned, at_least_unsigned, tests_null, tests_index, finds_item, decides, beside, combines, shifts, divides, loads_field, stores_field, asks, answers_in_r0, calls_slot, move_pieces, moves_pieces, entry_pieces}
 use Rattle.thumb_emit.proofs.Lists.{if_has, times_append}
 use Rattle.thumb_emit.proofs.Still.{IsStill, Idle, Single, brings_still, keeps_still, lands_still, moves_still}
+use Rattle.thumb_emit.specs.Joined.{joined_by}
 use Rattle.thumb_emit.proofs.Operators.{unary_has, binary_has}
+use Rattle.thumb_emit.proofs.Joins.{tests_has, branches_has}
 
 -- the labels that pieces go to
 abbrev pub gos_of : List Piece → List ℕ
@@ -185,14 +187,16 @@ module _ (f : Function) where
     op_marks k n (Const to value) w = let h = kept k to in None (record { stand = h.stand; goes = h.goes })
     op_marks k n (Copy to from) w = None (copies_bare (is_unread f k) (place to) (place from))
     op_marks k n (Unary to op from) w =
-        still_marks k n _ _ (brought 0 from) (unary_has (λ xs. Marks k n (xs ++ (keep f place k to ∷ []))) f (made_in f place k to) op (3 * k + 1)
-        (λ x. one_marks k n x to) (λ by x cond. decides_marks k n (made_in f place k to) by x cond to) (its_register f place 0 from))
+        still_marks k n _ _ (brought 0 from) (tests_has (Marks k n) (joined_by f (suc k)) _ _ (None (record { stand = λ l d. refl; goes = refl }))
+        (unary_has (λ xs. Marks k n (xs ++ (keep f place k to ∷ []))) f (made_in f place k to) op (3 * k + 1)
+        (λ x. one_marks k n x to) (λ by x cond. decides_marks k n (made_in f place k to) by x cond to) (its_register f place 0 from)))
     op_marks k n (Binary to op left right) w =
         let rd = made_in f place k to in let a = its_register f place 0 left in let b = its_register f place 1 right in
-        still_marks k n _ _ (brought 0 left) (still_marks k n _ _ (brought 1 right)
+        still_marks k n _ _ (brought 0 left) (still_marks k n _ _ (brought 1 right) (tests_has (Marks k n) (joined_by f (suc k)) _ _
+        (None (record { stand = λ l d. refl; goes = refl }))
         (binary_has (λ xs. Marks k n (xs ++ (keep f place k to ∷ []))) f rd op (3 * k + 1)
         (λ x. one_marks k n x to) (λ by x cond. decides_marks k n rd by x cond to) a b
-        (λ x. combines_marks k n rd a b x to) (λ x. shifts_marks k n rd a b x to) (λ answer. divides_marks k n rd a b answer to)))
+        (λ x. combines_marks k n rd a b x to) (λ x. shifts_marks k n rd a b x to) (λ answer. divides_marks k n rd a b answer to))))
     op_marks k n (GlobalGet to slot) w = let h = kept k to in None (record { stand = h.stand; goes = h.goes })
     op_marks k n (GlobalSet slot from) w = still_marks k n _ _ (brought 0 from) (None (record { stand = λ l d. refl; goes = refl }))
     op_marks k n (FieldGet to object field) w =
@@ -231,7 +235,8 @@ module _ (f : Function) where
         let h = bare_before [] [] (asks (is_unread f k) service) (land f place k to ∷ []) (asks_bare (is_unread f k) service) (landed k to) in
         None (bare_before [] [] (loads f place 0 args) (asks (is_unread f k) service ++ (land f place k to ∷ [])) (loads_bare 0 args) h)
     op_marks k n (Jump target) w = Away target w.0 (record { stand = λ l d. refl; goes = refl })
-    op_marks k n (Branch when target) w = still_marks k n _ _ (brought 0 when) (Away target w.0 (record { stand = λ l d. refl; goes = refl }))
+    op_marks k n (Branch when target) w = branches_has (Marks k n) (joined_by f k) _ _ _ (λ c e. Away target w.0 (record { stand = λ l d. refl; goes = refl }))
+        (still_marks k n _ _ (brought 0 when) (Away target w.0 (record { stand = λ l d. refl; goes = refl })))
     op_marks k n (Return from) w =
         let h = bare_before [] [] (raises (below_saved f place)) (Plain (PopMany (saved_list f place) true) ∷ []) (raises_bare (below_saved f place)) (record { stand = λ l d. refl; goes = refl }) in
         None (record { stand = h.stand; goes = h.goes })

@@ -1,6 +1,8 @@
 mod Lists
 mod Still
 mod Operators
+mod Joins
+mod Joining
 mod Fine
 mod Sound
 mod Labels

@@ -22,6 +22,8 @@ use Rattle.thumb_emit.specs.Emit.{get, its_register, bring, made_in, keep, land,
 use Rattle.thumb_emit.specs.Names.{name_of, names_of, call_of, calls_of, IsCalledBy}
 use Rattle.thumb_emit.proofs.Lists.{if_has, all_append, named_append, called_append}
 use Rattle.thumb_emit.proofs.Still.{IsStill, brings_still, keeps_still, lands_still, moves_still, still_names, still_calls}
+use Rattle.thumb_emit.specs.Joined.{joined_by}
+use Rattle.thumb_emit.proofs.Joins.{tests_has, branches_has}
 use Rattle.thumb_emit.proofs.Operators.{unary_has, binary_has}
 
 -- pieces that name nothing, and call nothing
@@ -97,7 +99,8 @@ module _ (f : Function) (place : ℕ → Place) where
   op_names k (Copy to from) = mute_of (Copy to from) _ (copies_mute (is_unread f k) (place to) (place from)) refl
   op_names k (GlobalGet to slot) = let h = kept k to in mute_of (GlobalGet to slot) _ (record { names = h.names; calls = h.calls }) refl
   op_names k (GlobalSet slot from) = still_of f _ _ _ (brought 0 from) (record { names = refl; calls = tt })
-  op_names k (Branch when target) = still_of f _ _ _ (brought 0 when) (record { names = refl; calls = tt })
+  op_names k (Branch when target) = branches_has (IsOf (Branch when target)) (joined_by f k) _ _ _ (λ c e. record { names = refl; calls = tt })
+      (still_of f _ _ _ (brought 0 when) (record { names = refl; calls = tt }))
   op_names k (TextOf to text) =
       let h = kept k to in
       record { names = ap (λ (q : List What). Text text ∷ q) h.names; calls = subst (λ (q : List What). AllByRecursion (IsCalledBy (TextOf to text ∷ [])) q) (sym h.calls) tt }
@@ -117,14 +120,14 @@ module _ (f : Function) (place : ℕ → Place) where
   op_names k (Unary to op from) =
       let h = kept k to in let rd = made_in f place k to in
       let o : Op = Unary to op from in
-      still_of f o _ _ (brought 0 from) (unary_has (λ xs. IsOf o (xs ++ (keep f place k to ∷ []))) f rd op (3 * k + 1)
+      still_of f o _ _ (brought 0 from) (tests_has (IsOf o) (joined_by f (suc k)) _ _ (record { names = refl; calls = tt }) (unary_has (λ xs. IsOf o (xs ++ (keep f place k to ∷ []))) f rd op (3 * k + 1)
       (λ x. mute_of o _ (record { names = h.names; calls = h.calls }) refl)
       (λ by x cond. (let m = still_mute f (carries f rd by) (keep f place k to ∷ []) (moves_still f rd by) h in mute_of o _ (record { names = m.names; calls = m.calls }) refl))
-      (its_register f place 0 from))
+      (its_register f place 0 from)))
   op_names k (Binary to op left right) =
       let h = kept k to in let rd = made_in f place k to in let a = its_register f place 0 left in let b = its_register f place 1 right in
       let o : Op = Binary to op left right in
-      still_of f o _ _ (brought 0 left) (still_of f o _ _ (brought 1 right) (binary_has (λ xs. IsOf o (xs ++ (keep f place k to ∷ []))) f rd op (3 * k + 1)
+      still_of f o _ _ (brought 0 left) (still_of f o _ _ (brought 1 right) (tests_has (IsOf o) (joined_by f (suc k)) _ _ (record { names = refl; calls = tt }) (binary_has (λ xs. IsOf o (xs ++ (keep f place k to ∷ []))) f rd op (3 * k + 1)
       (λ x. mute_of o _ (record { names = h.names; calls = h.calls }) refl)
       (λ by x cond. (let m = still_mute f (carries f rd by) (keep f place k to ∷ []) (moves_still f rd by) h in mute_of o _ (record { names = m.names; calls = m.calls }) refl))
       a b
@@ -136,7 +139,7 @@ module _ (f : Function) (place : ℕ → Place) where
       still_of f o _ _ (moves_still f 0 a) (still_of f o _ _ (moves_still f 1 b) (record {
         names = m.names;
         calls = subst (λ (q : List What). AllByRecursion (IsCalledBy (o ∷ [])) (FunctionOf division ∷ q)) (sym m.calls) (inl refl, tt);
-      }))))))
+      })))))))
   op_names k (FieldGet to object field) =
       let o : Op = FieldGet to object field in let rd = made_in f place k to in let r = its_register f place 0 object in let h = kept k to in
       still_of f o _ _ (brought 0 object)

@@ -3,7 +3,7 @@ use Rattle.std.proofs.Common.{FitsSigned, ℕ, zero, suc, ◌+◌, ◌-◌, ◌*
 use Rattle.std.specs.Int.{cast_unsigned, w32}
 use Rattle.std.proofs.Math.Facts.{Fits-of_z}
 use Rattle.std.specs.List.{AllByRecursion}
-use Rattle.thumb_code.specs.declared.instructions.Instr.TheVariants.{CmpImm, LdrImm, StrImm, LdrReg, StrReg, StrSp, Push, Pop as PopMany}
+use Rattle.thumb_code.specs.declared.instructions.Instr.TheVariants.{CmpImm, CmpReg, LdrImm, StrImm, LdrReg, StrReg, StrSp, Push, Pop as PopMany}
 use Rattle.thumb_layout.specs.declared.pieces.Piece.{Piece}
 use Rattle.thumb_layout.specs.declared.pieces.Piece.TheVariants.{Plain, CallTo}
 use Rattle.thumb_layout.specs.Soundness.{IsSoundPiece}
@@ -23,7 +23,9 @@ use Rattle.flat_ir.specs.WellFormed.{temporaries}
 use Rattle.thumb_emit.specs.Frame.{words, register_of, copies, raises, lowers, below_saved, saved_list}
 use Rattle.thumb_emit.specs.Ready.{IsReady, HasNumber, HasNumbers}
 use Rattle.thumb_emit.specs.Emit.{get, its_register, bring, made_in, keep, land, passes, loads, op_pieces, tests_null, tests_index, finds_item, unary, binary, loads_field, stores_field, asks, makes_object, makes_array, pops, calls_slot, move_pieces, moves_pieces, entry_pieces, ops_pieces, function_pieces}
+use Rattle.thumb_emit.specs.Joined.{joined_by as joins_at}
 use Rattle.thumb_emit.proofs.Lists.{all_append}
+use Rattle.thumb_emit.proofs.Joins.{tests_has, branches_has, joined_small}
 use Rattle.thumb_emit.proofs.Fine.{IsFine, AreFine, IsSmall, from_fine, to_fine, brings_fine, keeps_fine, lands_fine, register_low, made_low, raises_fine, lowers_fine, null_fine, index_fine, finds_fine, pops_fine, unary_fine, binary_fine, object_fine, array_fine, slot_fine, loads_fine, stores_fine, global_fine, asks_fine}
 
 -- the word of a number of 32 bits
@@ -111,18 +113,22 @@ module _ (f : Function) (place : ℕ → Place) (n : ℕ) (small : IsSmall f) (f
   op_fine places k (Const to value) w h = let a = w.names.0 in ((out_low k to a, number_fine value h), kept_fine k to a)
   op_fine places k (Copy to from) w h = let a = w.names in copied_fine (is_unread f k) (place to) (place from) (within to a.0) (within from a.1.0)
   op_fine places k (Unary to op from) w h = let a = w.names in
-      let d = out_low k to a.0 in let r = reg_low 0 from (omega arith) a.1.0 in (
+      let d = out_low k to a.0 in let r : its_register f place 0 from < 8 = reg_low 0 from (omega arith) a.1.0 in
+      let x : IsFine (Plain (CmpImm (its_register f place 0 from) 0)) = search rules in (
         bring_fine 0 from (omega arith) a.1.0,
-        joined (unary f (made_in f place k to) (its_register f place 0 from) op (3 * k + 1)) (keep f place k to ∷ [])
-            (unary_fine f (made_in f place k to) (its_register f place 0 from) op (3 * k + 1) d r) (kept_fine k to a.0),
+        tests_has AreFine (joins_at f (suc k)) _ _ (x, tt) (joined (unary f (made_in f place k to) (its_register f place 0 from) op (3 * k + 1)) (keep f place k to ∷ [])
+            (unary_fine f (made_in f place k to) (its_register f place 0 from) op (3 * k + 1) d r) (kept_fine k to a.0)),
       )
   op_fine places k (Binary to op left right) w h = let a = w.names in
-      let d = out_low k to a.0 in let l = reg_low 0 left (omega arith) a.1.0 in let r = reg_low 1 right (omega arith) a.1.1.0 in (
+      let d = out_low k to a.0 in let l : its_register f place 0 left < 8 = reg_low 0 left (omega arith) a.1.0 in
+      let r : its_register f place 1 right < 8 = reg_low 1 right (omega arith) a.1.1.0 in
+      let x : IsFine (Plain (CmpReg (its_register f place 0 left) (its_register f place 1 right))) = search rules in (
         bring_fine 0 left (omega arith) a.1.0,
         (
           bring_fine 1 right (omega arith) a.1.1.0,
-          joined (binary f (made_in f place k to) (its_register f place 0 left) (its_register f place 1 right) op (3 * k + 1)) (keep f place k to ∷ [])
-              (binary_fine f (made_in f place k to) (its_register f place 0 left) (its_register f place 1 right) op (3 * k + 1) d l r) (kept_fine k to a.0),
+          tests_has AreFine (joins_at f (suc k)) _ _ (x, tt)
+              (joined (binary f (made_in f place k to) (its_register f place 0 left) (its_register f place 1 right) op (3 * k + 1)) (keep f place k to ∷ [])
+              (binary_fine f (made_in f place k to) (its_register f place 0 left) (its_register f place 1 right) op (3 * k + 1) d l r) (kept_fine k to a.0)),
         ),
       )
   op_fine places k (GlobalGet to slot) w h = let a = w.names in let d : made_in f place k to < 8 = out_low k to a.0 in
@@ -195,6 +201,7 @@ module _ (f : Function) (place : ℕ → Place) (n : ℕ) (small : IsSmall f) (f
   op_fine places k (Branch when target) w h =
       let r : its_register f place 0 when < 8 = reg_low 0 when (omega arith) w.names.0 in
       let x : IsFine (Plain (CmpImm (its_register f place 0 when) 0)) = search rules in
+      branches_has AreFine (joins_at f k) _ _ _ (λ c e. (let l = joined_small f k c e in ((omega arith, tt), tt)))
       (bring_fine 0 when (omega arith) w.names.0, (x, ((omega arith, tt), tt)))
   op_fine places k (Return from) w h =
       let pop = pop_fine (saved_list f place) (list_small (saves f place) few) in

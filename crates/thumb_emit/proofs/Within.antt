@@ -16,7 +16,9 @@ use Rattle.register_assign.specs.declared.places.Place.TheVariants.{Reg, Slot, I
 use Rattle.thumb_emit.specs.Frame.{copies, carries, lowers, below_saved, saved_list}
 use Rattle.thumb_emit.specs.Emit.{get, its_register, bring, made_in, keep, land, passes, loads, op_pieces, beside, tests_null, asks, answers_in_r0, calls_slot, move_pieces, moves_pieces, entry_pieces, ops_pieces, function_pieces}
 use Rattle.thumb_emit.specs.Bounds.{total_cost, op_cost, op_bytes, ops_bytes, entry_cost, entry_bytes}
+use Rattle.thumb_emit.specs.Joined.{joined_by}
 use Rattle.thumb_emit.proofs.Lists.{if_has, cost_append, most_append}
+use Rattle.thumb_emit.proofs.Joins.{tests_has, branches_has}
 use Rattle.thumb_emit.proofs.Still.{brings_still, keeps_still, lands_still, moves_still, still_takes, still_fills}
 use Rattle.thumb_emit.proofs.Operators.{unary_has, binary_has}
 
@@ -51,16 +53,18 @@ module _ (f : Function) (place : ℕ → Place) where
   pub op_takes : (k : ℕ) (op : Op) → total_cost (op_pieces f place k op) ≤ op_cost op
   op_takes k (Unary to op from) =
       let a = takes_bring 0 from in let b = takes_keep k to in let rd = made_in f place k to in
-      unary_has (λ xs. total_cost (bring f place 0 from ∷ xs ++ (keep f place k to ∷ [])) ≤ 15) f rd op (3 * k + 1) (λ x. omega arith)
-      (λ by x cond. let m = takes_step rd by in omega arith) (its_register f place 0 from)
+      tests_has (λ xs. total_cost (bring f place 0 from ∷ xs) ≤ 15) (joined_by f (suc k)) _ _ (omega arith)
+      (unary_has (λ xs. total_cost (bring f place 0 from ∷ xs ++ (keep f place k to ∷ [])) ≤ 15) f rd op (3 * k + 1) (λ x. omega arith)
+      (λ by x cond. let m = takes_step rd by in omega arith) (its_register f place 0 from))
   op_takes k (Binary to op left right) =
       let a = takes_bring 0 left in let c = takes_bring 1 right in let b = takes_keep k to in
       let rd = made_in f place k to in let l = its_register f place 0 left in let r = its_register f place 1 right in
-      binary_has (λ xs. total_cost (bring f place 0 left ∷ bring f place 1 right ∷ xs ++ (keep f place k to ∷ [])) ≤ 17) f rd op (3 * k + 1)
+      tests_has (λ xs. total_cost (bring f place 0 left ∷ bring f place 1 right ∷ xs) ≤ 17) (joined_by f (suc k)) _ _ (omega arith)
+      (binary_has (λ xs. total_cost (bring f place 0 left ∷ bring f place 1 right ∷ xs ++ (keep f place k to ∷ [])) ≤ 17) f rd op (3 * k + 1)
       (λ x. omega arith) (λ by x cond. let m = takes_step rd by in omega arith) l r
       (λ x. let m = takes_step (beside 2 rd r) l in let n = takes_step rd (beside 2 rd r) in omega arith)
       (λ x. let m = takes_step rd l in omega arith)
-      (λ answer. let m = takes_step 0 l in let n = takes_step 1 r in let q = takes_step rd answer in omega arith)
+      (λ answer. let m = takes_step 0 l in let n = takes_step 1 r in let q = takes_step rd answer in omega arith))
   op_takes k (FieldGet to object field) =
       let a = takes_bring 0 object in let b = takes_keep k to in
       if_has (λ xs. total_cost (bring f place 0 object ∷ tests_null (its_register f place 0 object) (3 * k + 1) ++ (xs ++ (keep f place k to ∷ []))) ≤ 17) (nat_lt field 31) _ _ (omega arith) (omega arith)
@@ -87,7 +91,8 @@ module _ (f : Function) (place : ℕ → Place) where
   op_takes k (MakeArray to room) = let x0 = takes_land k to in omega arith
   op_takes k (HandlerOf to function) = let x0 = takes_keep k to in omega arith
   op_takes k (Jump target) = omega arith
-  op_takes k (Branch when target) = let x0 = takes_bring 0 when in omega arith
+  op_takes k (Branch when target) =
+      let x0 = takes_bring 0 when in branches_has (λ xs. total_cost xs ≤ 7) (joined_by f k) _ _ _ (λ c e. omega arith) (omega arith)
 
   takes_move : (p : Place) (t : ℕ) → total_cost (move_pieces f place p t) ≤ 4
   takes_move (Incoming j) t = omega arith
@@ -134,16 +139,18 @@ module _ (f : Function) (place : ℕ → Place) where
   pub op_fills : (k : ℕ) (op : Op) → total_most (op_pieces f place k op) ≤ op_bytes op
   op_fills k (Unary to op from) =
       let a = fills_bring 0 from in let b = fills_keep k to in let rd = made_in f place k to in
-      unary_has (λ xs. total_most (bring f place 0 from ∷ xs ++ (keep f place k to ∷ [])) ≤ 18) f rd op (3 * k + 1) (λ x. omega arith)
-      (λ by x cond. let m = fills_step rd by in omega arith) (its_register f place 0 from)
+      tests_has (λ xs. total_most (bring f place 0 from ∷ xs) ≤ 18) (joined_by f (suc k)) _ _ (omega arith)
+      (unary_has (λ xs. total_most (bring f place 0 from ∷ xs ++ (keep f place k to ∷ [])) ≤ 18) f rd op (3 * k + 1) (λ x. omega arith)
+      (λ by x cond. let m = fills_step rd by in omega arith) (its_register f place 0 from))
   op_fills k (Binary to op left right) =
       let a = fills_bring 0 left in let c = fills_bring 1 right in let b = fills_keep k to in
       let rd = made_in f place k to in let l = its_register f place 0 left in let r = its_register f place 1 right in
-      binary_has (λ xs. total_most (bring f place 0 left ∷ bring f place 1 right ∷ xs ++ (keep f place k to ∷ [])) ≤ 20) f rd op (3 * k + 1)
+      tests_has (λ xs. total_most (bring f place 0 left ∷ bring f place 1 right ∷ xs) ≤ 20) (joined_by f (suc k)) _ _ (omega arith)
+      (binary_has (λ xs. total_most (bring f place 0 left ∷ bring f place 1 right ∷ xs ++ (keep f place k to ∷ [])) ≤ 20) f rd op (3 * k + 1)
       (λ x. omega arith) (λ by x cond. let m = fills_step rd by in omega arith) l r
       (λ x. let m = fills_step (beside 2 rd r) l in let n = fills_step rd (beside 2 rd r) in omega arith)
       (λ x. let m = fills_step rd l in omega arith)
-      (λ answer. let m = fills_step 0 l in let n = fills_step 1 r in let q = fills_step rd answer in omega arith)
+      (λ answer. let m = fills_step 0 l in let n = fills_step 1 r in let q = fills_step rd answer in omega arith))
   op_fills k (FieldGet to object field) =
       let a = fills_bring 0 object in let b = fills_keep k to in
       if_has (λ xs. total_most (bring f place 0 object ∷ tests_null (its_register f place 0 object) (3 * k + 1) ++ (xs ++ (keep f place k to ∷ []))) ≤ 28) (nat_lt field 31) _ _ (omega arith) (omega arith)
@@ -170,7 +177,8 @@ module _ (f : Function) (place : ℕ → Place) where
   op_fills k (MakeArray to room) = let x0 = fills_land k to in omega arith
   op_fills k (HandlerOf to function) = let x0 = fills_keep k to in omega arith
   op_fills k (Jump target) = omega arith
-  op_fills k (Branch when target) = let x0 = fills_bring 0 when in omega arith
+  op_fills k (Branch when target) =
+      let x0 = fills_bring 0 when in branches_has (λ xs. total_most xs ≤ 10) (joined_by f k) _ _ _ (λ c e. omega arith) (omega arith)
 
   fills_move : (p : Place) (t : ℕ) → total_most (move_pieces f place p t) ≤ 4
   fills_move (Incoming j) t = omega arith
@@ -221,9 +229,12 @@ op_some f place k (Ask to service args) =
     let c : 0 < counted (asks (is_unread f k) service) = if_has (λ xs. 0 < counted xs) (is_unread f k || answers_in_r0 service) _ _ (omega arith) (omega arith) in omega (arith, a, b, c)
 op_some f place k (Copy to from) = copies_some f (is_unread f k) (place to) (place from)
 op_some f place k (Unary to op from) =
-    unary_has (λ xs. 0 < counted (bring f place 0 from ∷ xs ++ (keep f place k to ∷ []))) f (made_in f place k to) op (3 * k + 1) (λ x. omega arith)
-    (λ by x cond. omega arith) (its_register f place 0 from)
+    tests_has (λ xs. 0 < counted (bring f place 0 from ∷ xs)) (joined_by f (suc k)) _ _ (omega arith)
+    (unary_has (λ xs. 0 < counted (bring f place 0 from ∷ xs ++ (keep f place k to ∷ []))) f (made_in f place k to) op (3 * k + 1) (λ x. omega arith)
+    (λ by x cond. omega arith) (its_register f place 0 from))
 op_some f place k (Binary to op left right) =
-    binary_has (λ xs. 0 < counted (bring f place 0 left ∷ bring f place 1 right ∷ xs ++ (keep f place k to ∷ []))) f (made_in f place k to) op (3 * k + 1)
-    (λ x. omega arith) (λ by x cond. omega arith) (its_register f place 0 left) (its_register f place 1 right) (λ x. omega arith) (λ x. omega arith) (λ answer. omega arith)
+    tests_has (λ xs. 0 < counted (bring f place 0 left ∷ bring f place 1 right ∷ xs)) (joined_by f (suc k)) _ _ (omega arith)
+    (binary_has (λ xs. 0 < counted (bring f place 0 left ∷ bring f place 1 right ∷ xs ++ (keep f place k to ∷ []))) f (made_in f place k to) op (3 * k + 1)
+    (λ x. omega arith) (λ by x cond. omega arith) (its_register f place 0 left) (its_register f place 1 right) (λ x. omega arith) (λ x. omega arith) (λ answer. omega arith))
+op_some f place k (Branch when target) = branches_has (λ xs. 0 < counted xs) (joined_by f k) _ _ _ (λ c e. omega arith) (omega arith)
 op_some f place k op = omega arith

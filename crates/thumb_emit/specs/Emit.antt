@@ -1,6 +1,6 @@
 -- The pieces of each op, of a function's entry, and of a function. r0 to r3 are free between ops; temporaries stand in their places. An op reads a
 -- temporary in its own register, or in a scratch register into which it comes first; so with its result. A result that nobody reads stays in r0.
-use Rattle.std.specs.Prelude.{ℕ, zero, suc, ◌+◌, ◌*◌, min, List, [], ◌∷◌, ◌++◌, length, Bool, true, ◌==◌, ◌||◌, nat_lt, if◌then◌else◌}
+use Rattle.std.specs.Prelude.{ℕ, zero, suc, ◌+◌, ◌*◌, min, List, [], ◌∷◌, ◌++◌, length, Bool, true, ◌==◌, ◌||◌, nat_lt, if◌then◌else◌, Option, Some, None}
 use Rattle.std.specs.Int.{cast_unsigned, w32}
 use Rattle.board_services.specs.declared.numbers.TheConstants.{TIME, EVENT_VALUE, BUTTON, TEXT_GLYPH, NUMBER_GLYPH}
 use Rattle.sts_syntax.specs.declared.operators.TheConstants.{NEGATE, PLUS, NOT, COMPLEMENT, BIT_OR, BIT_XOR, BIT_AND, EQUAL, UNEQUAL, LESS, GREATER, AT_MOST, AT_LEAST, SHIFT_LEFT, SHIFT_RIGHT, SHIFT_RIGHT_UNSIGNED, ADD, SUBTRACT, MULTIPLY, DIVIDE}
@@ -19,32 +19,9 @@ use Rattle.register_assign.specs.declared.places.Place.TheVariants.{Reg, Slot, I
 use Rattle.register_assign.specs.declared.places.Placed.{Placed}
 use Rattle.register_assign.specs.Sound.{place_of}
 use Rattle.register_assign.specs.Unread.{is_unread}
+pub use Rattle.thumb_emit.specs.Joined.{equal, unequal, at_least_unsigned, below_unsigned, at_least, less, greater, at_most}
+use Rattle.thumb_emit.specs.Joined.{joined_by}
 use Rattle.thumb_emit.specs.Frame.{words, from_place, to_place, idle_piece, register_of, brings, result_in, keeps, lands, copies, carries, raises, lowers, below_saved, saved_list}
-
--- conditions of branches (ARM DDI 0419, table A6-1)
-abbrev pub equal : ℕ
-equal = 0
-
-abbrev pub unequal : ℕ
-unequal = 1
-
-abbrev pub at_least_unsigned : ℕ
-at_least_unsigned = 2
-
-abbrev pub below_unsigned : ℕ
-below_unsigned = 3
-
-abbrev pub at_least : ℕ
-at_least = 10
-
-abbrev pub less : ℕ
-less = 11
-
-abbrev pub greater : ℕ
-greater = 12
-
-abbrev pub at_most : ℕ
-at_most = 13
 
 -- the function number that names the division routine, which has the quotient in r0 and the remainder in r1
 abbrev pub division : ℕ
@@ -125,6 +102,17 @@ binary f rd left right op label =
     else if op == MULTIPLY then combines f rd left right Mul
     else if op == DIVIDE then divides f rd left right 0
     else divides f rd left right 1
+
+-- A comparison for a branch that is joined with it is one instruction. Else it is these pieces.
+abbrev pub test_pieces : Option ℕ → Instr → List Piece → List Piece
+test_pieces (Some cond) compared pieces = Plain compared ∷ []
+test_pieces None compared pieces = pieces
+
+-- A branch that is joined with the comparison before it goes by the flags. Else it goes where a register isn't 0, into
+-- which a piece brings what it tests.
+abbrev pub branch_pieces : Option ℕ → Piece → ℕ → ℕ → List Piece
+branch_pieces (Some cond) brought when label = Go cond label ∷ []
+branch_pieces None brought when label = brought ∷ Plain (CmpImm when 0) ∷ Go unequal label ∷ []
 
 -- A field stands behind its object's class. An immediate counts to 31 words; a field past them is found by r2.
 abbrev pub field_offset : ℕ → ℕ
@@ -214,10 +202,11 @@ module _ (f : Function) (place : ℕ → Place) where
   op_pieces k (Const to value) = Number (made_in k to) (cast_unsigned w32 value) ∷ keep k to ∷ []
   op_pieces k (Copy to from) = copies f (is_unread f k) (place to) (place from)
   op_pieces k (Unary to op from) =
-      bring 0 from ∷ unary f (made_in k to) (its_register 0 from) op (3 * k + 1) ++ (keep k to ∷ [])
+      bring 0 from ∷ test_pieces (joined_by f (suc k)) (CmpImm (its_register 0 from) 0)
+      (unary f (made_in k to) (its_register 0 from) op (3 * k + 1) ++ (keep k to ∷ []))
   op_pieces k (Binary to op left right) =
-      bring 0 left ∷ bring 1 right ∷ binary f (made_in k to) (its_register 0 left) (its_register 1 right) op (3 * k + 1)
-      ++ (keep k to ∷ [])
+      bring 0 left ∷ bring 1 right ∷ test_pieces (joined_by f (suc k)) (CmpReg (its_register 0 left) (its_register 1 right))
+      (binary f (made_in k to) (its_register 0 left) (its_register 1 right) op (3 * k + 1) ++ (keep k to ∷ []))
   op_pieces k (GlobalGet to slot) = finds_global slot ∷ Plain (LdrImm (made_in k to) 1 0) ∷ keep k to ∷ []
   op_pieces k (GlobalSet slot from) = bring 0 from ∷ finds_global slot ∷ Plain (StrImm (its_register 0 from) 1 0) ∷ []
   op_pieces k (FieldGet to object field) =
@@ -250,8 +239,7 @@ module _ (f : Function) (place : ℕ → Place) where
   op_pieces k (HandlerOf to function) = Address (made_in k to) (FunctionOf function) ∷ keep k to ∷ []
   op_pieces k (Ask to service args) = loads 0 args ++ (asks (is_unread f k) service ++ (land k to ∷ []))
   op_pieces k (Jump target) = Go always (3 * target) ∷ []
-  op_pieces k (Branch when target) =
-      bring 0 when ∷ Plain (CmpImm (its_register 0 when) 0) ∷ Go unequal (3 * target) ∷ []
+  op_pieces k (Branch when target) = branch_pieces (joined_by f k) (bring 0 when) (its_register 0 when) (3 * target)
   op_pieces k (Return from) =
       get 0 from ∷ raises (below_saved f place) ++ (Plain (PopMany (saved_list f place) true) ∷ [])
 

@@ -1,4 +1,5 @@
 pub mod Frame
+pub mod Joined
 pub mod Emit
 pub mod Bounds
 pub mod Names

@@ -1,5 +1,5 @@
 -- What emission asks of a function and its places.
-use Rattle.std.specs.Prelude.{◌≡◌, ℕ, ◌+◌, ◌*◌, ◌^◌, ◌<◌, length, List, ◌∷◌, ◌++◌, FitsSigned}
+use Rattle.std.specs.Prelude.{◌≡◌, ℕ, suc, ◌+◌, ◌*◌, ◌^◌, ◌<◌, length, List, ◌∷◌, ◌++◌, FitsSigned}
 use Rattle.std.specs.Int.{w32}
 use Rattle.std.specs.List.{AllByRecursion}
 use Rattle.flat_ir.specs.declared.ops.Op.{Op}
@@ -14,6 +14,7 @@ use Rattle.thumb_code.specs.declared.instructions.Instr.TheVariants.{MovHigh, Cm
 use Rattle.thumb_layout.specs.declared.pieces.Piece.{Piece}
 use Rattle.thumb_layout.specs.declared.pieces.Piece.TheVariants.{Plain, Number}
 use Rattle.thumb_emit.specs.Frame.{words}
+use Rattle.thumb_emit.specs.Joined.{joined_by}
 use Rattle.thumb_emit.specs.Emit.{get, its_register, bring, made_in, keep, land, op_pieces, entry_pieces, unless, at_least_unsigned, tests_null, tests_index, finds_item}
 
 -- the function is well formed, and its places are sound
@@ -25,10 +26,15 @@ pub record IsReady (p : Placed) : Type 0 where
 abbrev pub IsOpTold : Placed → At → Type 0
 IsOpTold p at = at.unread ≡ is_unread p.function at.k
 
+-- and with the conditions on which the op goes, and the next one, where these are joined branches
+abbrev pub IsJoinTold : Placed → At → Type 0
+IsJoinTold p at = (at.joined ≡ joined_by p.function at.k) × (at.next ≡ joined_by p.function (suc at.k))
+
 -- the op is one of the function's, and every label has 32 bits
 pub record IsReadyAt (p : Placed) (at : At) (op : Op) : Type 0 where
   pub ready : IsReady p
   pub told : IsOpTold p at
+  pub joins : IsJoinTold p at
   pub there : at.k < length p.function.ops
   pub within : IsOpWithin (temporaries p.function) (length p.function.ops) p.function.outgoing op
   pub labels : 3 * length p.function.ops + 1 < 2 ^ 32

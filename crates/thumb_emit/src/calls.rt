@@ -5,7 +5,7 @@ ghost use Rattle.flat_ir.specs.declared.ops.Op.TheVariants as o;
 ghost use Rattle.flat_ir.specs.WellFormed.{temporaries};
 ghost use Rattle.register_assign.specs.Sound.{place_of};
 ghost use Rattle.thumb_emit.specs.Emit.{passes, loads, answers_in_r0, asks, calls_slot};
-ghost use Rattle.thumb_emit.specs.Ready.{IsReady, IsOpTold, pieces_of};
+ghost use Rattle.thumb_emit.specs.Ready.{IsReady, IsOpTold, IsJoinTold, pieces_of};
 
 use crate::frame::{below_saved, bring, get, keep, land, made_in, raise, register, saved_list};
 use crate::pieces::{ALWAYS, At, NE, add, load, test_null};
@@ -182,20 +182,25 @@ pub(crate) fn jump(out: &mut Seq<Piece>, placed: &Placed, target: u32) -> Result
     })
 }
 
-/// Goes on at another op where a value isn't 0.
+/// Goes on at another op where a value isn't 0: by the flags, where the op before compared.
 pub(crate) fn branch(
     out: &mut Seq<Piece>,
     placed: &Placed,
+    at: At,
     when: u32,
     target: u32,
 ) -> Result<(), NoMemory>
     requires ready { IsReady placed.now }
+    requires joins { IsJoinTold placed.now at }
     requires when { when < temporaries placed.now.function }
     requires label { 3 * target < 2 ^ 32 }
     requires labels { 3 * length placed.now.function.ops + 1 < 2 ^ 32 }
-    ensures { OnOk result (out.new ≡ out.old ++ pieces_of placed.now 0 (o.Branch when target)) }
+    ensures { OnOk result (out.new ≡ out.old ++ pieces_of placed.now at.k (o.Branch when target)) }
 {
     let label = 3 * target;
+    if let Some(cond) = at.joined {
+        return out.push(Piece::Go { cond, label });
+    }
     let rd = register(placed, 0, when);
     add(
         out,

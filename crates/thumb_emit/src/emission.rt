@@ -8,6 +8,7 @@ ghost use Rattle.thumb_emit.specs.Ready.{IsReadyAt, IsGoing, pieces_of};
 
 use crate::calls::{ask, branch, call, call_slot, give, handler, jump};
 use crate::entry::enter;
+use crate::joined::told;
 use crate::numbers::{Operands, binary, constant, copy, unary};
 use crate::pieces::At;
 use crate::things::{
@@ -32,7 +33,7 @@ fn put_going(out: &mut Seq<Piece>, placed: &Placed, at: At, op: &Op) -> Result<(
         Op::HandlerOf { to, function } => handler(out, placed, at, *to, *function),
         Op::Ask { to, service, args } => ask(out, placed, at, *to, *service, args),
         Op::Jump { target } => jump(out, placed, *target),
-        Op::Branch { when, target } => branch(out, placed, *when, *target),
+        Op::Branch { when, target } => branch(out, placed, at, *when, *target),
         Op::Return { from } => give(out, placed, *from),
         _ => Ok(()),
     }
@@ -92,8 +93,7 @@ pub fn emit(alloc: Global, placed: &Placed) -> Result<Seq<Piece>, NoMemory>
     for (at, op) in ops.iter().enumerate() {
         let k = at as u32;
         out.push(Piece::Label(3 * k))?;
-        let unread = unread[at];
-        put_op(&mut out, placed, At { k, unread }, op)?;
+        put_op(&mut out, placed, told(placed, &unread, k), op)?;
     }
     Ok(out)
 }

@@ -7,6 +7,7 @@ mod calls;
 mod emission;
 mod entry;
 mod frame;
+mod joined;
 mod numbers;
 mod pieces;
 mod theorems;

@@ -6,7 +6,7 @@ ghost use Rattle.flat_ir.specs.declared.ops.Op.TheVariants as o;
 ghost use Rattle.flat_ir.specs.WellFormed.{temporaries};
 ghost use Rattle.sts_syntax.specs.declared.operators.TheConstants.{BIT_OR, BIT_XOR, BIT_AND, SHIFT_LEFT, SHIFT_RIGHT, SHIFT_RIGHT_UNSIGNED, MULTIPLY};
 ghost use Rattle.thumb_emit.specs.Emit.{decides, beside, compares, combines, shifts, divides, unary, binary};
-ghost use Rattle.thumb_emit.specs.Ready.{IsReady, IsOpTold, pieces_of};
+ghost use Rattle.thumb_emit.specs.Ready.{IsReady, IsOpTold, IsJoinTold, pieces_of};
 
 use crate::frame::{bring, get, idle_piece, keep, made_in, moved, place_of, register, to_place};
 use crate::pieces::{At, EQ, GE, GT, LE, LT, NE, add};
@@ -299,6 +299,7 @@ pub(crate) fn unary(
 ) -> Result<(), NoMemory>
     requires ready { IsReady placed.now }
     requires told { IsOpTold placed.now at }
+    requires joins { IsJoinTold placed.now at }
     requires to { to < temporaries placed.now.function }
     requires from { from < temporaries placed.now.function }
     requires label { 3 * at.k + 1 < 2 ^ 32 }
@@ -306,8 +307,11 @@ pub(crate) fn unary(
     ensures { OnOk result (out.new ≡ out.old ++ pieces_of placed.now at.k (o.Unary to op from)) }
 {
     out.push(bring(placed, 0, from))?;
-    let rd = made_in(placed, at, to);
-    put_prefix(out, placed, rd, register(placed, 0, from), op, 3 * at.k + 1)?;
+    let rs = register(placed, 0, from);
+    if at.next.is_some() {
+        return out.push(Piece::Plain(Instr::CmpImm { rd: rs, imm: 0 }));
+    }
+    put_prefix(out, placed, made_in(placed, at, to), rs, op, 3 * at.k + 1)?;
     out.push(keep(placed, at, to))
 }
 
@@ -329,6 +333,7 @@ pub(crate) fn binary(
 ) -> Result<(), NoMemory>
     requires ready { IsReady placed.now }
     requires told { IsOpTold placed.now at }
+    requires joins { IsJoinTold placed.now at }
     requires to { to < temporaries placed.now.function }
     requires left { operands.left < temporaries placed.now.function }
     requires right { operands.right < temporaries placed.now.function }
@@ -345,6 +350,10 @@ pub(crate) fn binary(
         left: register(placed, 0, left),
         right: register(placed, 1, right),
     };
+    if at.next.is_some() {
+        let (rdn, rm) = (registers.left, registers.right);
+        return out.push(Piece::Plain(Instr::CmpReg { rdn, rm }));
+    }
     put_operator(out, placed, registers, op, 3 * at.k + 1)?;
     out.push(keep(placed, at, to))
 }

@@ -27,11 +27,16 @@ pub(crate) const LE: u8 = 13;
 
 pub(crate) const ALWAYS: u8 = 14;
 
-/// An op's number, and whether nobody reads its result.
+/// An op's number, and what is known of it.
 #[derive(Clone, Copy, Drop)]
 pub struct At {
     pub k: u32,
+    /// whether nobody reads its result
     pub unread: bool,
+    /// the condition on which it goes, where it is a branch that is joined with the op before it
+    pub joined: Option<u8>,
+    /// that of the next op
+    pub next: Option<u8>,
 }
 
 /// Puts pieces behind others.

@@ -2,7 +2,7 @@ use Rattle.std.proofs.Common.{◌≡◌, ◌<◌, ◌+◌, length, not, refl, sy
 use Rattle.std.proofs.lemmas.Option.{slice_get_read}
 use Rattle.register_assign.specs.Unread.{AreNotedAnew}
 use Rattle.register_assign.proofs.Unreading.{noted_here, noted_past}
-use Rattle.register_assign.proofs.unread.note.Goals.{then-writes, else-writes}
+use Rattle.register_assign.proofs.unread.note.Goals.{then-handles, else-handles}
 use Rattle.register_assign.proofs.unread.note.Goals as goal
 
 pub loop-at-preserved : goal.loop-at-preserved
@@ -12,14 +12,14 @@ loop-at-preserved c =
     let l : at < length ops = omega (arith, c.loop-at-test.true) in
     let op = c.index-ops-at.result in
     let g = slice_get_read ops (length ops) at op refl l c.index-ops-at.is in
-    elim c.if-writes.branch [
-      | then-writes w ↦
+    elim c.if-handles.branch [
+      | then-handles w ↦
           subst (AreNotedAnew ops c.args.t (at + 1) c.args.notes.now)
           (sym (w.notes-is ∙ ap (λ b. slice_set c.loop-at.notes at (not b)) w.is_marked_behind.ensures))
-          (noted_here ops c.args.t at op c.args.marks.now c.args.notes.now c.loop-at.notes g c.requires.marks c.requires.long (sym c.writes.ensures ∙ w.if-writes.true) c.loop-at.invariant)
-      | else-writes w ↦
+          (noted_here ops c.args.t at op c.args.marks.now c.args.notes.now c.loop-at.notes g c.requires.marks c.requires.long (sym c.handles.ensures ∙ w.if-handles.true) c.loop-at.invariant)
+      | else-handles w ↦
           subst (AreNotedAnew ops c.args.t (at + 1) c.args.notes.now) (sym w.notes-is)
-          (noted_past ops c.args.t at op c.args.notes.now c.loop-at.notes g (sym c.writes.ensures ∙ w.if-writes.false) c.loop-at.invariant)
+          (noted_past ops c.args.t at op c.args.notes.now c.loop-at.notes g (sym c.handles.ensures ∙ w.if-handles.false) c.loop-at.invariant)
     ]
 
 pub loop-at-init : goal.loop-at-init
