@@ -21,15 +21,13 @@ use Rattle.sts_lexer.specs.Marks.{mark_bytes}
 use Rattle.sts_lexer.specs.Words.{word_bytes}
 use Rattle.sts_lexer.specs.Tokens.{Reads, IsNext, AreTokens, IsTokenization}
 use Rattle.sts_lexer.specs.declared.marks.Mark.{Mark}
-use Rattle.sts_lexer.specs.declared.marks.TheConstants.{MARKS}
 use Rattle.sts_lexer.specs.declared.words.Word.{Word}
-use Rattle.sts_lexer.specs.declared.words.TheConstants.{WORDS}
 use Rattle.sts_lexer.specs.declared.token.TokenKind.{TokenKind}
 use Rattle.sts_lexer.specs.declared.token.TokenKind.TheVariants as kinds
 use Rattle.sts_lexer.specs.declared.token.Token.{Token}
 use Rattle.sts_lexer.proofs.Lexing.{spells_within, name_longest, number_longest, quoted_longest, mark_longest}
-use Rattle.sts_lexer.proofs.MarkTable.{place_of as mark_place, placed as mark_placed}
-use Rattle.sts_lexer.proofs.WordTable.{place_of as word_place, placed as word_placed}
+use Rattle.sts_lexer.proofs.MarkTable.{MARKS, place_of as mark_place, placed as mark_placed}
+use Rattle.sts_lexer.proofs.WordTable.{WORDS, place_of as word_place, placed as word_placed}
 use Rattle.sts_lexer.proofs.Growing.{start_within}
 use Rattle.sts_lexer.proofs.Front.{all_first, some_first, byte_at, enough, within, each_first, some_there, there_some, gap_first, rest_behind}
 

@@ -41,7 +41,7 @@ pub quote_mark : (byte : ℕ) → IsTrue (is_quote byte) → IsTrue (begins_mark
 quote_mark byte h g = grind (arith, nat_tests)
 
 -- bytes that stand in a text
-stands_first : (text bytes : List ℕ) (i j : ℕ) → Stands text bytes i j → 0 < length bytes → slice_index text i ≡ slice_index bytes 0
+pub stands_first : (text bytes : List ℕ) (i j : ℕ) → Stands text bytes i j → 0 < length bytes → slice_index text i ≡ slice_index bytes 0
 stands_first text bytes i j h some =
     let most : 0 < j - i = omega (arith, h.1) in
     let one : slice_index (take (j - i) (drop i text)) 0 ≡ slice_index text (i + 0) = get_or-take (j - i) (drop i text) 0 0 most ∙ get_or-drop i text 0 0 in
@@ -56,7 +56,7 @@ stands_within text bytes i j h some =
     let ends : j ≡ i + length bytes = h.1 in
     (omega arith, omega arith)
 
-mark_some : (which : Mark) (bytes : List ℕ) → IsTrue (begins_mark (slice_index bytes 0)) → 0 < length bytes
+pub mark_some : (which : Mark) (bytes : List ℕ) → IsTrue (begins_mark (slice_index bytes 0)) → 0 < length bytes
 mark_some which [] h = absurd (false≢true h)
 mark_some which (x ∷ xs) h = omega arith
 

@@ -6,6 +6,7 @@ pub mod Bodies
 pub mod Digits
 pub mod Gaps
 pub mod Lexing
+pub mod Beginnings
 pub mod Growing
 pub mod Steps
 pub mod Unique

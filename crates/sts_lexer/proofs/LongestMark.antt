@@ -8,8 +8,7 @@ use Rattle.std.proofs.lemmas.Slice.Eq.{bytes_eq-Decides}
 use Rattle.sts_lexer.specs.Bytes.{Stands}
 use Rattle.sts_lexer.specs.Marks.{mark_bytes}
 use Rattle.sts_lexer.specs.declared.marks.Mark.{Mark}
-use Rattle.sts_lexer.specs.declared.marks.TheConstants.{MARKS}
-use Rattle.sts_lexer.proofs.MarkTable.{place_of, placed, in_table, at_most, falls, table_falls}
+use Rattle.sts_lexer.proofs.MarkTable.{MARKS, place_of, placed, in_table, at_most, falls, table_falls}
 
 -- the bytes p stand at i exactly where the text from i on starts with them
 pub stands_from : (text p : List ℕ) (i : ℕ) → bytes_eq p (take (length p) (drop i text)) ≡ true → Stands text p i (i + length p)
@@ -61,10 +60,16 @@ later_shorter (x ∷ rest) (suc j) zero mark mark' h le here there = absurd (ome
 later_shorter (x ∷ rest) (suc j) (suc k) mark mark' h le here there =
     later_shorter rest j k mark mark' (and_parts _ _ h).1 (omega arith) here there
 
+-- of a table in which no mark is longer than those before it
+pub longest_of : (marks : List Mark) → IsTrue (falls marks) → (text : List ℕ) (place i : ℕ) (this : Mark) → slice_get marks place ≡ Some this → NoneBefore marks place text i
+    → (k : ℕ) (mark : Mark) (end : ℕ) → slice_get marks k ≡ Some mark → Stands text (mark_bytes mark) i end → end ≤ i + length (mark_bytes this)
+longest_of marks falling text place i this here before k mark end there stands =
+    elim (cases_lt k place) [
+      | inl lt ↦ absurd (before k mark end lt there stands)
+      | inr le ↦ omega (arith, later_shorter marks place k this mark falling le here there, stands.1)
+    ]
+
 pub first_longest : (text : List ℕ) (place i : ℕ) (this : Mark) → slice_get MARKS place ≡ Some this → NoneBefore MARKS place text i
     → (mark : Mark) (end : ℕ) → Stands text (mark_bytes mark) i end → end ≤ i + length (mark_bytes this)
 first_longest text place i this here before mark end stands =
-    elim (cases_lt (place_of mark) place) [
-      | inl lt ↦ absurd (before (place_of mark) mark end lt (placed mark) stands)
-      | inr le ↦ omega (arith, later_shorter MARKS place (place_of mark) this mark table_falls le here (placed mark), stands.1)
-    ]
+    longest_of MARKS table_falls text place i this here before (place_of mark) mark end (placed mark) stands

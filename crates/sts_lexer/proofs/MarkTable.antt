@@ -1,13 +1,24 @@
 -- Each mark stands in the table of marks, behind the longer ones, and no two have the same bytes.
-use Rattle.std.proofs.Common.{◌≡◌, ℕ, ◌<◌, Bool, true, cond, List, [], ◌∷◌, refl, sym, ap, ◌∙◌, lit<}
-use Rattle.std.specs.Prelude.{Option, Some, None, IsTrue, not, ◌&&◌, nat_le, nat_lt, slice_get, slice_index, length}
+use Rattle.std.proofs.Common.{◌≡◌, ℕ, ◌<◌, Bool, true, false, cond, List, [], ◌∷◌, refl, sym, ap, ◌∙◌, lit<}
+use Rattle.std.specs.Prelude.{Option, Some, None, IsTrue, not, ◌&&◌, ◌==◌, if◌then◌else◌, nat_le, nat_lt, slice_get, slice_index, length}
 use Rattle.std.specs.Str.{bytes_eq}
 use Rattle.std.proofs.lemmas.Option.{same_Some}
 use Rattle.sts_lexer.specs.Bytes.{goes_on_name, is_quote, is_blank}
 use Rattle.sts_lexer.specs.Marks.{mark_bytes}
 use Rattle.sts_lexer.specs.declared.marks.Mark.{Mark}
 use Rattle.sts_lexer.specs.declared.marks.Mark.TheVariants as mark
-use Rattle.sts_lexer.specs.declared.marks.TheConstants.{MARKS}
+use Rattle.sts_lexer.specs.inner.{marks_beginning}
+
+-- the table of marks, the longer ones first
+abbrev pub MARKS : List Mark
+MARKS =
+    mark.UnsignedShiftRightAssign ∷ mark.ShiftLeftAssign ∷ mark.ShiftRightAssign ∷ mark.StrictEqual ∷ mark.StrictNotEqual ∷ mark.UnsignedShiftRight ∷ mark.Arrow ∷
+    mark.PlusAssign ∷ mark.MinusAssign ∷ mark.StarAssign ∷ mark.SlashAssign ∷ mark.PercentAssign ∷ mark.AmpersandAssign ∷ mark.BarAssign ∷
+    mark.CaretAssign ∷ mark.Equal ∷ mark.NotEqual ∷ mark.LessEqual ∷ mark.GreaterEqual ∷ mark.AmpersandAmpersand ∷ mark.BarBar ∷
+    mark.ShiftLeft ∷ mark.ShiftRight ∷ mark.PlusPlus ∷ mark.MinusMinus ∷ mark.OpenBrace ∷ mark.CloseBrace ∷ mark.OpenParenthesis ∷
+    mark.CloseParenthesis ∷ mark.OpenBracket ∷ mark.CloseBracket ∷ mark.Semicolon ∷ mark.Comma ∷ mark.Dot ∷ mark.Colon ∷
+    mark.Question ∷ mark.Assign ∷ mark.Less ∷ mark.Greater ∷ mark.Plus ∷ mark.Minus ∷ mark.Star ∷
+    mark.Slash ∷ mark.Percent ∷ mark.Ampersand ∷ mark.Bar ∷ mark.Caret ∷ mark.Tilde ∷ mark.Exclamation ∷ []
 
 -- where a mark stands in the table
 abbrev pub place_of : Mark → ℕ
@@ -164,7 +175,7 @@ in_table mark.PlusPlus = lit< tt
 in_table mark.MinusMinus = lit< tt
 
 -- the first mark of a table that has these bytes
-abbrev mark_of : List Mark → List ℕ → Option Mark
+abbrev pub mark_of : List Mark → List ℕ → Option Mark
 mark_of [] bytes = None
 mark_of (mark ∷ rest) bytes = cond (bytes_eq (mark_bytes mark) bytes) (Some mark) (mark_of rest bytes)
 
@@ -218,6 +229,58 @@ found mark.ShiftRight = refl
 found mark.UnsignedShiftRight = refl
 found mark.PlusPlus = refl
 found mark.MinusMinus = refl
+
+-- and among those that begin as it does
+pub found_from : (mark : Mark) → mark_of (marks_beginning (slice_index (mark_bytes mark) 0)) (mark_bytes mark) ≡ Some mark
+found_from mark.OpenBrace = refl
+found_from mark.CloseBrace = refl
+found_from mark.OpenParenthesis = refl
+found_from mark.CloseParenthesis = refl
+found_from mark.OpenBracket = refl
+found_from mark.CloseBracket = refl
+found_from mark.Semicolon = refl
+found_from mark.Comma = refl
+found_from mark.Dot = refl
+found_from mark.Colon = refl
+found_from mark.Question = refl
+found_from mark.Arrow = refl
+found_from mark.Assign = refl
+found_from mark.PlusAssign = refl
+found_from mark.MinusAssign = refl
+found_from mark.StarAssign = refl
+found_from mark.SlashAssign = refl
+found_from mark.PercentAssign = refl
+found_from mark.AmpersandAssign = refl
+found_from mark.BarAssign = refl
+found_from mark.CaretAssign = refl
+found_from mark.ShiftLeftAssign = refl
+found_from mark.ShiftRightAssign = refl
+found_from mark.UnsignedShiftRightAssign = refl
+found_from mark.Equal = refl
+found_from mark.NotEqual = refl
+found_from mark.StrictEqual = refl
+found_from mark.StrictNotEqual = refl
+found_from mark.Less = refl
+found_from mark.Greater = refl
+found_from mark.LessEqual = refl
+found_from mark.GreaterEqual = refl
+found_from mark.Plus = refl
+found_from mark.Minus = refl
+found_from mark.Star = refl
+found_from mark.Slash = refl
+found_from mark.Percent = refl
+found_from mark.Ampersand = refl
+found_from mark.Bar = refl
+found_from mark.Caret = refl
+found_from mark.Tilde = refl
+found_from mark.Exclamation = refl
+found_from mark.AmpersandAmpersand = refl
+found_from mark.BarBar = refl
+found_from mark.ShiftLeft = refl
+found_from mark.ShiftRight = refl
+found_from mark.UnsignedShiftRight = refl
+found_from mark.PlusPlus = refl
+found_from mark.MinusMinus = refl
 
 pub same_mark : (mark mark' : Mark) → mark_bytes mark ≡ mark_bytes mark' → mark ≡ mark'
 same_mark mark mark' e = same_Some mark mark' (sym (found mark) ∙ ap (λ bytes. mark_of MARKS bytes) e ∙ found mark')
@@ -288,3 +351,36 @@ falls (mark ∷ rest) = at_most (length (mark_bytes mark)) rest && falls rest
 
 pub table_falls : IsTrue (falls MARKS)
 table_falls = refl
+
+-- nor than those before it among the marks that begin with one byte
+either_falls : (test : Bool) (first second : List Mark) → IsTrue (falls first) → IsTrue (falls second) → IsTrue (falls (if test then first else second))
+either_falls true first second h g = h
+either_falls false first second h g = g
+
+pub beginnings_fall : (byte : ℕ) → IsTrue (falls (marks_beginning byte))
+beginnings_fall byte =
+    either_falls (byte == 33) _ _ refl
+    (either_falls (byte == 37) _ _ refl
+    (either_falls (byte == 38) _ _ refl
+    (either_falls (byte == 40) _ _ refl
+    (either_falls (byte == 41) _ _ refl
+    (either_falls (byte == 42) _ _ refl
+    (either_falls (byte == 43) _ _ refl
+    (either_falls (byte == 44) _ _ refl
+    (either_falls (byte == 45) _ _ refl
+    (either_falls (byte == 46) _ _ refl
+    (either_falls (byte == 47) _ _ refl
+    (either_falls (byte == 58) _ _ refl
+    (either_falls (byte == 59) _ _ refl
+    (either_falls (byte == 60) _ _ refl
+    (either_falls (byte == 61) _ _ refl
+    (either_falls (byte == 62) _ _ refl
+    (either_falls (byte == 63) _ _ refl
+    (either_falls (byte == 91) _ _ refl
+    (either_falls (byte == 93) _ _ refl
+    (either_falls (byte == 94) _ _ refl
+    (either_falls (byte == 123) _ _ refl
+    (either_falls (byte == 124) _ _ refl
+    (either_falls (byte == 125) _ _ refl
+    (either_falls (byte == 126) _ _ refl
+    refl)))))))))))))))))))))))

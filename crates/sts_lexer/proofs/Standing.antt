@@ -15,16 +15,15 @@ use Rattle.sts_lexer.specs.Marks.{mark_bytes}
 use Rattle.sts_lexer.specs.Words.{word_bytes}
 use Rattle.sts_lexer.specs.declared.marks.Mark.{Mark}
 use Rattle.sts_lexer.specs.declared.marks.Mark.TheVariants.{OpenBrace}
-use Rattle.sts_lexer.specs.declared.marks.TheConstants.{MARKS}
 use Rattle.sts_lexer.specs.declared.words.Word.{Word}
 use Rattle.sts_lexer.specs.declared.words.Word.TheVariants.{Break}
-use Rattle.sts_lexer.specs.declared.words.TheConstants.{WORDS}
 use Rattle.sts_lexer.proofs.Bodies.{inside, body_more, stuck_inside, stuck_at_end}
 use Rattle.sts_lexer.proofs.Digits.{hex_end, x_goes_on}
 use Rattle.sts_lexer.proofs.Gaps.{line_comment}
 use Rattle.sts_lexer.proofs.Lexing.{spells_within, name_longest, name_stands, number_longest, no_number, quoted_longest, no_quoted, mark_longest, no_mark, digit_goes_on}
 use Rattle.sts_lexer.proofs.LongestMark.{NoneBefore, none_more, none_at_all, first_longest, stands_from}
-use Rattle.sts_lexer.proofs.WordTable.{place_of, placed, in_table}
+use Rattle.sts_lexer.proofs.MarkTable.{MARKS}
+use Rattle.sts_lexer.proofs.WordTable.{WORDS, place_of, placed, in_table}
 
 -- the first place from i on where a test holds
 record First (test : ℕ → Bool) (i n : ℕ) : Type 0 where

@@ -1,12 +1,21 @@
 -- Each reserved word stands in the table of words, and no two have the same bytes.
 use Rattle.std.proofs.Common.{◌≡◌, ℕ, ◌<◌, cond, List, [], ◌∷◌, refl, sym, ap, ◌∙◌, lit<}
-use Rattle.std.specs.Prelude.{Option, Some, None, slice_get}
+use Rattle.std.specs.Prelude.{Option, Some, None, slice_get, slice_index}
 use Rattle.std.specs.Str.{bytes_eq}
 use Rattle.std.proofs.lemmas.Option.{same_Some}
 use Rattle.sts_lexer.specs.Words.{word_bytes}
 use Rattle.sts_lexer.specs.declared.words.Word.{Word}
 use Rattle.sts_lexer.specs.declared.words.Word.TheVariants as word
-use Rattle.sts_lexer.specs.declared.words.TheConstants.{WORDS}
+use Rattle.sts_lexer.specs.inner.{words_beginning}
+
+-- the table of words
+abbrev pub WORDS : List Word
+WORDS =
+    word.Break ∷ word.Class ∷ word.Const ∷ word.Continue ∷ word.Do ∷ word.Else ∷ word.Extends ∷ word.False ∷ word.For ∷
+    word.Function ∷ word.If ∷ word.Let ∷ word.New ∷ word.Null ∷ word.Private ∷ word.Protected ∷ word.Public ∷ word.Return ∷
+    word.Super ∷ word.This ∷ word.True ∷ word.Void ∷ word.While ∷ word.Case ∷ word.Catch ∷ word.Debugger ∷ word.Default ∷
+    word.Delete ∷ word.Enum ∷ word.Export ∷ word.Finally ∷ word.Implements ∷ word.Import ∷ word.In ∷ word.Instanceof ∷ word.Interface ∷
+    word.Package ∷ word.Static ∷ word.Switch ∷ word.Throw ∷ word.Try ∷ word.Typeof ∷ word.Var ∷ word.With ∷ word.Yield ∷ []
 
 -- where a word stands in the table
 abbrev pub place_of : Word → ℕ
@@ -151,7 +160,7 @@ in_table word.With = lit< tt
 in_table word.Yield = lit< tt
 
 -- the first word of a table that has these bytes
-abbrev word_of : List Word → List ℕ → Option Word
+abbrev pub word_of : List Word → List ℕ → Option Word
 word_of [] bytes = None
 word_of (word ∷ rest) bytes = cond (bytes_eq (word_bytes word) bytes) (Some word) (word_of rest bytes)
 
@@ -201,6 +210,54 @@ found word.Typeof = refl
 found word.Var = refl
 found word.With = refl
 found word.Yield = refl
+
+-- and among those that begin as it does
+pub found_from : (word : Word) → word_of (words_beginning (slice_index (word_bytes word) 0)) (word_bytes word) ≡ Some word
+found_from word.Break = refl
+found_from word.Class = refl
+found_from word.Const = refl
+found_from word.Continue = refl
+found_from word.Do = refl
+found_from word.Else = refl
+found_from word.Extends = refl
+found_from word.False = refl
+found_from word.For = refl
+found_from word.Function = refl
+found_from word.If = refl
+found_from word.Let = refl
+found_from word.New = refl
+found_from word.Null = refl
+found_from word.Private = refl
+found_from word.Protected = refl
+found_from word.Public = refl
+found_from word.Return = refl
+found_from word.Super = refl
+found_from word.This = refl
+found_from word.True = refl
+found_from word.Void = refl
+found_from word.While = refl
+found_from word.Case = refl
+found_from word.Catch = refl
+found_from word.Debugger = refl
+found_from word.Default = refl
+found_from word.Delete = refl
+found_from word.Enum = refl
+found_from word.Export = refl
+found_from word.Finally = refl
+found_from word.Implements = refl
+found_from word.Import = refl
+found_from word.In = refl
+found_from word.Instanceof = refl
+found_from word.Interface = refl
+found_from word.Package = refl
+found_from word.Static = refl
+found_from word.Switch = refl
+found_from word.Throw = refl
+found_from word.Try = refl
+found_from word.Typeof = refl
+found_from word.Var = refl
+found_from word.With = refl
+found_from word.Yield = refl
 
 pub same_word : (word word' : Word) → word_bytes word ≡ word_bytes word' → word ≡ word'
 same_word word word' e = same_Some word word' (sym (found word) ∙ ap (λ bytes. word_of WORDS bytes) e ∙ found word')

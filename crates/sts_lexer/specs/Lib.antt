@@ -10,3 +10,4 @@ pub mod Uses
 pub mod Entries
 pub mod Refusals
 pub mod Laws
+pub mod inner

@@ -1,6 +1,7 @@
 // Punctuation and operators.
 ghost use Rattle.std.specs.Prelude.{◌≡◌, ℕ, ◌<◌, ◌≤◌, length, IfSome, IfNone};
 ghost use Rattle.sts_lexer.specs.Bytes.{Stands};
+ghost use Rattle.sts_lexer.specs.inner.{marks_beginning};
 ghost use Rattle.sts_lexer.specs.Marks.{mark_bytes};
 ghost use Rattle.sts_lexer.specs.declared.marks.Mark.{Mark};
 
@@ -108,59 +109,6 @@ pub enum Mark {
     MinusMinus,
 }
 
-/// Every mark, the longer ones first.
-const MARKS: [Mark; 49] = [
-    Mark::UnsignedShiftRightAssign,
-    Mark::ShiftLeftAssign,
-    Mark::ShiftRightAssign,
-    Mark::StrictEqual,
-    Mark::StrictNotEqual,
-    Mark::UnsignedShiftRight,
-    Mark::Arrow,
-    Mark::PlusAssign,
-    Mark::MinusAssign,
-    Mark::StarAssign,
-    Mark::SlashAssign,
-    Mark::PercentAssign,
-    Mark::AmpersandAssign,
-    Mark::BarAssign,
-    Mark::CaretAssign,
-    Mark::Equal,
-    Mark::NotEqual,
-    Mark::LessEqual,
-    Mark::GreaterEqual,
-    Mark::AmpersandAmpersand,
-    Mark::BarBar,
-    Mark::ShiftLeft,
-    Mark::ShiftRight,
-    Mark::PlusPlus,
-    Mark::MinusMinus,
-    Mark::OpenBrace,
-    Mark::CloseBrace,
-    Mark::OpenParenthesis,
-    Mark::CloseParenthesis,
-    Mark::OpenBracket,
-    Mark::CloseBracket,
-    Mark::Semicolon,
-    Mark::Comma,
-    Mark::Dot,
-    Mark::Colon,
-    Mark::Question,
-    Mark::Assign,
-    Mark::Less,
-    Mark::Greater,
-    Mark::Plus,
-    Mark::Minus,
-    Mark::Star,
-    Mark::Slash,
-    Mark::Percent,
-    Mark::Ampersand,
-    Mark::Bar,
-    Mark::Caret,
-    Mark::Tilde,
-    Mark::Exclamation,
-];
-
 /// The bytes of a mark.
 fn spelling(mark: Mark) -> &'static [u8]
     ensures { result.now ≡ mark_bytes mark }
@@ -218,6 +166,55 @@ fn spelling(mark: Mark) -> &'static [u8]
     }
 }
 
+/// The marks that begin with a byte, none before a longer one.
+fn marks_beginning(byte: u8) -> &'static [Mark]
+    ensures { result.now ≡ marks_beginning byte }
+{
+    match byte {
+        b'!' => &[Mark::StrictNotEqual, Mark::NotEqual, Mark::Exclamation],
+        b'%' => &[Mark::PercentAssign, Mark::Percent],
+        b'&' => &[
+            Mark::AmpersandAssign,
+            Mark::AmpersandAmpersand,
+            Mark::Ampersand,
+        ],
+        b'(' => &[Mark::OpenParenthesis],
+        b')' => &[Mark::CloseParenthesis],
+        b'*' => &[Mark::StarAssign, Mark::Star],
+        b'+' => &[Mark::PlusAssign, Mark::PlusPlus, Mark::Plus],
+        b',' => &[Mark::Comma],
+        b'-' => &[Mark::MinusAssign, Mark::MinusMinus, Mark::Minus],
+        b'.' => &[Mark::Dot],
+        b'/' => &[Mark::SlashAssign, Mark::Slash],
+        b':' => &[Mark::Colon],
+        b';' => &[Mark::Semicolon],
+        b'<' => &[
+            Mark::ShiftLeftAssign,
+            Mark::LessEqual,
+            Mark::ShiftLeft,
+            Mark::Less,
+        ],
+        b'=' => &[Mark::StrictEqual, Mark::Arrow, Mark::Equal, Mark::Assign],
+        b'>' => &[
+            Mark::UnsignedShiftRightAssign,
+            Mark::ShiftRightAssign,
+            Mark::UnsignedShiftRight,
+            Mark::GreaterEqual,
+            Mark::ShiftRight,
+            Mark::Greater,
+        ],
+        b'?' => &[Mark::Question],
+        b'[' => &[Mark::OpenBracket],
+        b']' => &[Mark::CloseBracket],
+        b'^' => &[Mark::CaretAssign, Mark::Caret],
+        b'{' => &[Mark::OpenBrace],
+        b'|' => &[Mark::BarAssign, Mark::BarBar, Mark::Bar],
+        b'}' => &[Mark::CloseBrace],
+        b'~' => &[Mark::Tilde],
+        _ => &[],
+    }
+}
+
 /// The longest mark that stands at a place, and the place behind it.
 pub fn mark_at(text: &[u8], at: usize) -> Option<(Mark, usize)>
     requires here { at < length text.now }
@@ -227,10 +224,11 @@ pub fn mark_at(text: &[u8], at: usize) -> Option<(Mark, usize)>
     ensures none { IfNone result ((mark : Mark) (end : ℕ) → Stands text.now (mark_bytes mark) at end → ⊥) }
 {
     let rest = &text[at..];
-    for mark in MARKS {
-        let bytes = spelling(mark);
+    let marks = marks_beginning(text[at]);
+    for mark in marks {
+        let bytes = spelling(*mark);
         if rest.starts_with(bytes) {
-            return Some((mark, at + bytes.len()));
+            return Some((*mark, at + bytes.len()));
         }
     }
     None

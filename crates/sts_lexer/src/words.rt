@@ -1,7 +1,10 @@
 // The reserved words.
 ghost use Rattle.std.specs.Prelude.{◌≡◌, IfSome, IfNone, ◌≢◌};
+ghost use Rattle.sts_lexer.specs.inner.{words_beginning};
 ghost use Rattle.sts_lexer.specs.Words.{word_bytes};
 ghost use Rattle.sts_lexer.specs.declared.words.Word.{Word};
+
+use crate::bytes::byte_at;
 
 /// A reserved word (ECMA-262, section 12.7.2, and TypeScript's words for classes). Those from `Case` on stand in
 /// no program: they are reserved so that a text which any ECMAScript program might mean otherwise is refused.
@@ -53,54 +56,6 @@ pub enum Word {
     With,
     Yield,
 }
-
-const WORDS: [Word; 45] = [
-    Word::Break,
-    Word::Class,
-    Word::Const,
-    Word::Continue,
-    Word::Do,
-    Word::Else,
-    Word::Extends,
-    Word::False,
-    Word::For,
-    Word::Function,
-    Word::If,
-    Word::Let,
-    Word::New,
-    Word::Null,
-    Word::Private,
-    Word::Protected,
-    Word::Public,
-    Word::Return,
-    Word::Super,
-    Word::This,
-    Word::True,
-    Word::Void,
-    Word::While,
-    Word::Case,
-    Word::Catch,
-    Word::Debugger,
-    Word::Default,
-    Word::Delete,
-    Word::Enum,
-    Word::Export,
-    Word::Finally,
-    Word::Implements,
-    Word::Import,
-    Word::In,
-    Word::Instanceof,
-    Word::Interface,
-    Word::Package,
-    Word::Static,
-    Word::Switch,
-    Word::Throw,
-    Word::Try,
-    Word::Typeof,
-    Word::Var,
-    Word::With,
-    Word::Yield,
-];
 
 /// The bytes of a reserved word.
 fn spelling(word: Word) -> &'static [u8]
@@ -155,14 +110,52 @@ fn spelling(word: Word) -> &'static [u8]
     }
 }
 
+/// The reserved words that begin with a byte.
+fn words_beginning(byte: u8) -> &'static [Word]
+    ensures { result.now ≡ words_beginning byte }
+{
+    match byte {
+        b'b' => &[Word::Break],
+        b'c' => &[
+            Word::Class,
+            Word::Const,
+            Word::Continue,
+            Word::Case,
+            Word::Catch,
+        ],
+        b'd' => &[Word::Do, Word::Debugger, Word::Default, Word::Delete],
+        b'e' => &[Word::Else, Word::Extends, Word::Enum, Word::Export],
+        b'f' => &[Word::False, Word::For, Word::Function, Word::Finally],
+        b'i' => &[
+            Word::If,
+            Word::Implements,
+            Word::Import,
+            Word::In,
+            Word::Instanceof,
+            Word::Interface,
+        ],
+        b'l' => &[Word::Let],
+        b'n' => &[Word::New, Word::Null],
+        b'p' => &[Word::Private, Word::Protected, Word::Public, Word::Package],
+        b'r' => &[Word::Return],
+        b's' => &[Word::Super, Word::Static, Word::Switch],
+        b't' => &[Word::This, Word::True, Word::Throw, Word::Try, Word::Typeof],
+        b'v' => &[Word::Void, Word::Var],
+        b'w' => &[Word::While, Word::With],
+        b'y' => &[Word::Yield],
+        _ => &[],
+    }
+}
+
 /// The reserved word that has these bytes.
 pub fn reserved(bytes: &[u8]) -> Option<Word>
     ensures some { IfSome result (λ word. bytes.now ≡ word_bytes word) }
     ensures none { IfNone result ((word : Word) → bytes.now ≢ word_bytes word) }
 {
-    for word in WORDS {
-        if spelling(word) == bytes {
-            return Some(word);
+    let words = words_beginning(byte_at(bytes, 0));
+    for word in words {
+        if spelling(*word) == bytes {
+            return Some(*word);
         }
     }
     None
