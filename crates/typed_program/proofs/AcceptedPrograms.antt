@@ -26,6 +26,7 @@ use Rattle.sts_scope.specs.Failures.{Failure}
 use Rattle.type_derive.specs.Typing.{◌>>=◌}
 use Rattle.typed_program.proofs.FilledTexts.{first_none}
 use Rattle.typed_program.specs.Accepting.{Accepts}
+use Rattle.typed_program.specs.ElaborationLaws.{AgreesOnReadTexts}
 use Rattle.typed_laws.specs.Buildable.{IsBuildable}
 use Rattle.typed_program.proofs.LibraryBehind.{Behind, behind, begin}
 use Rattle.typed_program.proofs.TextBytes.{Bytes, texts_are_bytes}
@@ -39,6 +40,7 @@ pub record Laws : Type 0 where
   pub light : TypedLibraryIsLight
   pub built : TextsAreBuilt
   pub well_typed : AcceptedIsWellTyped
+  pub elaborated : AgreesOnReadTexts
 
 line_end : All Bytes first.texts
 line_end zero d h = (omega arith, (omega arith, tt))
@@ -54,7 +56,7 @@ pub buildable : Laws → (text : List ℕ) (tables : Tables) (P : TypedProgram) 
 buildable laws text tables P h =
     let b : Behind text tables h.library h.tokens = behind laws.leaves text tables h.library h.tokens h.read in
     let L : Program = l.library b.own in
-    let accepted : IsAccepted tables L h.program P = subst (λ (p : Program). IsAccepted tables p h.program P) b.library_is h.accepted in
+    let accepted : IsAccepted tables L h.program P = subst (λ (p : Program). IsAccepted tables p h.program P) b.library_is ((laws.elaborated.becomes text tables h.library h.tokens h.program P h.read).0 h.accepted) in
     let names = b.read.more_names in
     let texts = b.read.more_texts in
     let whole = begin tables names texts in

@@ -7,13 +7,14 @@ use Rattle.sts_scope.specs.Failures.{Failure, ◌then◌}
 use Rattle.sts_syntax.specs.Programs.{Program}
 use Rattle.sts_syntax.specs.TypedTrees.{TypedProgram}
 use Rattle.type_derive.specs.Derived.{AreDerived, TypeTable}
-use Rattle.typed_laws.specs.Accepted.{IsAccepted, IsRefused, text_failure, limits_failure}
+use Rattle.typed_laws.specs.Accepted.{text_failure, limits_failure}
 use Rattle.typed_laws.specs.Libraries.{IsLibrary}
 use Rattle.typed_laws.specs.inner.FilledTexts.{filled_program, filled_refusal, IsFilled, IsUnfilled}
 use Rattle.typed_laws.specs.BuiltTexts.{TextsAreBuilt, RefusalsAreFound}
 use Rattle.typed_laws.specs.LibraryLaws.{first, PreludeIsLibrary, LibraryLeavesFirst}
 use Rattle.typed_program.specs.Accepting.{ReadsText}
 use Rattle.typed_program.specs.Checking.{FilledIsTyped}
+use Rattle.typed_program.specs.ElaborationLaws.{AgreesOnReadTexts}
 use Rattle.typed_program.proofs.LibraryBehind.{Behind, behind, begin}
 
 pub first_none : (x y : Option Failure) → (x then y) ≡ None → x ≡ None
@@ -34,15 +35,15 @@ library_before leaves prelude text tables library tokens read program kinds deri
     let here : Goes tables library = subst (λ (p : Program). Goes tables p) (sym b.library_is) (subst (λ (t : Tables). Goes t L) (sym whole) own) in
     here derived
 
-pub filled_typed : LibraryLeavesFirst → PreludeIsLibrary → TextsAreBuilt → RefusalsAreFound → FilledIsTyped
-filled_typed leaves prelude built found = record {
+pub filled_typed : LibraryLeavesFirst → PreludeIsLibrary → TextsAreBuilt → RefusalsAreFound → AgreesOnReadTexts → FilledIsTyped
+filled_typed leaves prelude built found agree = record {
   accepted = λ text tables library tokens program P read h.
       let (kinds, derived, none, is) = h in
       let ok = library_before leaves prelude text tables library tokens read program kinds derived in
       let no_failure : text_failure tables library program kinds ≡ None = first_none (text_failure tables library program kinds) (limits_failure tables.texts (filled_program tables library program kinds)) none in
-      (kinds, derived, found tables library program kinds derived ok ∙ none, built tables library program kinds derived ok no_failure ∙ ap (λ (p : TypedProgram). Some p) (sym is));
+      (agree.becomes text tables library tokens program P read).1 (kinds, derived, found tables library program kinds derived ok ∙ none, built tables library program kinds derived ok no_failure ∙ ap (λ (p : TypedProgram). Some p) (sym is));
   refused = λ text tables library tokens program f read h.
       let (kinds, derived, is) = h in
       let ok = library_before leaves prelude text tables library tokens read program kinds derived in
-      (kinds, derived, found tables library program kinds derived ok ∙ is);
+      (agree.fails text tables library tokens program f read).1 (kinds, derived, found tables library program kinds derived ok ∙ is);
 }

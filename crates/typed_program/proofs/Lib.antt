@@ -1,16 +1,19 @@
 mod Accepted
+mod Saying
+mod ElaboratedParts
+mod ElaboratedTexts
 mod TextBytes
 mod LibraryBehind
 mod AcceptedPrograms
 mod OneAnswers
 mod SomeAnswers
 mod FilledTexts
+mod ReadTexts
 mod NodePlaces
 mod SpelledPlaces
 mod FailurePlaces
 mod PassPlaces
 mod TextPlaces
-pub mod Laws
 mod AtMost
 mod Takes
 pub mod Checked

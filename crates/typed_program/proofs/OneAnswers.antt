@@ -20,12 +20,13 @@ use Rattle.sts_grammar.specs.Units.{IsProgram}
 use Rattle.sts_scope.specs.declared.kinds.StaticType.{StaticType}
 use Rattle.sts_scope.specs.Failures.{Failure}
 use Rattle.type_derive.specs.Derived.{AreDerived, derivation}
-use Rattle.typed_laws.specs.Accepted.{refusal, typed, IsAccepted, IsRefused}
 use Rattle.type_derive.specs.Laws.{IsOne}
 use Rattle.typed_laws.specs.LibraryLaws.{LibraryLeavesFirst}
 use Rattle.typed_program.specs.Accepting.{Accepts, IsRefusedFor, TokensAreRefused, RefusesProgram}
+use Rattle.typed_program.specs.ElaboratedTexts.{elab_text, BecomesProgram, FailsBy}
 use Rattle.typed_program.specs.Laws.{OneAnswer}
 use Rattle.typed_program.proofs.LibraryBehind.{AreOne, one_reading}
+use Rattle.typed_program.proofs.Saying.{ok_is, err_is, not_ok}
 
 not_deep : (tokens : List Token) (at : ℕ) → NoneDeep tokens → IsFirstDeep tokens at → ⊥
 not_deep tokens at none h = absurd (omega (arith, h.deep, none h.at (slice_get_within tokens h.at h.token h.is)))
@@ -66,16 +67,13 @@ types_same one tables library text xs ys h j =
     ext_get_or None xs ys size (λ d lt. one (derivation tables library text) xs ys size h.least j.least d)
 
 module _ (reading : OneReading) (leaves : LibraryLeavesFirst) (one : IsOne) (program : OneProgram) where
-  accepted_same : (tables : Tables) (library text : Program) (P P' : TypedProgram) → IsAccepted tables library text P → IsAccepted tables library text P' → P ≡ P'
+  accepted_same : (tables : Tables) (library text : Program) (P P' : TypedProgram) → BecomesProgram tables library text P → BecomesProgram tables library text P' → P ≡ P'
   accepted_same tables library text P P' h j =
-      same_Some P P' (sym h.3 ∙ (ap (λ (kinds : List (Option StaticType)). typed tables library text kinds) (types_same one tables library text h.0 j.0 h.1 j.1) ∙ j.3))
+      ok_is P P' (sym h.2 ∙ (ap (λ (kinds : List (Option StaticType)). elab_text tables library text kinds) (types_same one tables library text h.0 j.0 h.1 j.1) ∙ j.2))
 
-  accepted_refused : (tables : Tables) (library text : Program) (P : TypedProgram) (f : Failure) → IsAccepted tables library text P → IsRefused tables library text f → ⊥
+  accepted_refused : (tables : Tables) (library text : Program) (P : TypedProgram) (f : Failure) → BecomesProgram tables library text P → FailsBy tables library text f → ⊥
   accepted_refused tables library text P f h r =
-      let same : refusal tables library text h.0 ≡ refusal tables library text r.0 =
-      ap (λ (kinds : List (Option StaticType)). refusal tables library text kinds) (types_same one tables library text h.0 r.0 h.1 r.1) in
-      let e : ◌≡◌ {A = Option Failure} None (Some f) = sym h.2 ∙ (same ∙ r.2) in
-      cc
+      not_ok f P (sym r.2 ∙ (ap (λ (kinds : List (Option StaticType)). elab_text tables library text kinds) (sym (types_same one tables library text h.0 r.0 h.1 r.1)) ∙ h.2))
 
   tokens_refused : (text : List ℕ) (tables : Tables) (P : TypedProgram) (why : Code) (at : ℕ) → Accepts text tables P → TokensAreRefused text why at → ⊥
   tokens_refused text tables P why at h r =
@@ -98,9 +96,9 @@ module _ (reading : OneReading) (leaves : LibraryLeavesFirst) (one : IsOne) (pro
       let same = one_reading leaves text r.tables tables r.library h.library r.tokens h.tokens r.read h.read in
       let trees = spelled_same r.tables tables r.library h.library r.tokens h.tokens r.program h.program same r.spelled h.spelled in
       accepted_refused tables h.library h.program P f h.accepted
-      (subst (λ (t : Tables). IsRefused t h.library h.program f) same.tables_same
-      (subst (λ (p : Program). IsRefused r.tables p h.program f) same.library_same
-      (subst (λ (p : Program). IsRefused r.tables r.library p f) trees r.refused)))
+      (subst (λ (t : Tables). FailsBy t h.library h.program f) same.tables_same
+      (subst (λ (p : Program). FailsBy r.tables p h.program f) same.library_same
+      (subst (λ (p : Program). FailsBy r.tables r.library p f) trees r.refused)))
 
   never_both : (text : List ℕ) (tables : Tables) (P : TypedProgram) (why : Code) (at : ℕ) → Accepts text tables P → IsRefusedFor text why at → ⊥
   never_both text tables P why at h (inl r) = tokens_or_refusal tables text h.tokens why at h.read.tokenization r
@@ -113,15 +111,15 @@ module _ (reading : OneReading) (leaves : LibraryLeavesFirst) (one : IsOne) (pro
       let trees = spelled_same tables tables' h.library j.library h.tokens j.tokens h.program j.program same h.spelled j.spelled in (
         same.tables_same,
         accepted_same tables' j.library j.program P P'
-            (subst (λ (t : Tables). IsAccepted t j.library j.program P) same.tables_same
-            (subst (λ (p : Program). IsAccepted tables p j.program P) same.library_same
-            (subst (λ (p : Program). IsAccepted tables h.library p P) trees h.accepted)))
+            (subst (λ (t : Tables). BecomesProgram t j.library j.program P) same.tables_same
+            (subst (λ (p : Program). BecomesProgram tables p j.program P) same.library_same
+            (subst (λ (p : Program). BecomesProgram tables h.library p P) trees h.accepted)))
             j.accepted,
       )
 
-  failure_same : (tables : Tables) (library text : Program) (f g : Failure) → IsRefused tables library text f → IsRefused tables library text g → f ≡ g
+  failure_same : (tables : Tables) (library text : Program) (f g : Failure) → FailsBy tables library text f → FailsBy tables library text g → f ≡ g
   failure_same tables library text f g h j =
-      same_Some f g (sym h.2 ∙ (ap (λ (kinds : List (Option StaticType)). refusal tables library text kinds) (types_same one tables library text h.0 j.0 h.1 j.1) ∙ j.2))
+      err_is f g (sym h.2 ∙ (ap (λ (kinds : List (Option StaticType)). elab_text tables library text kinds) (types_same one tables library text h.0 j.0 h.1 j.1) ∙ j.2))
 
   both_tokens : (text : List ℕ) (why why' : Code) (at at' : ℕ) → TokensAreRefused text why at → TokensAreRefused text why' at' → (why ≡ why') × (why ≢ code.Syntax → at ≡ at')
   both_tokens text why why' at at' h j =
@@ -146,9 +144,9 @@ module _ (reading : OneReading) (leaves : LibraryLeavesFirst) (one : IsOne) (pro
       let trees = spelled_same h.tables j.tables h.library j.library h.tokens j.tokens h.program j.program same h.spelled j.spelled in
       let one : f ≡ g =
       failure_same j.tables j.library j.program f g
-      (subst (λ (t : Tables). IsRefused t j.library j.program f) same.tables_same
-      (subst (λ (p : Program). IsRefused h.tables p j.program f) same.library_same
-      (subst (λ (p : Program). IsRefused h.tables h.library p f) trees h.refused)))
+      (subst (λ (t : Tables). FailsBy t j.library j.program f) same.tables_same
+      (subst (λ (p : Program). FailsBy h.tables p j.program f) same.library_same
+      (subst (λ (p : Program). FailsBy h.tables h.library p f) trees h.refused)))
       j.refused in
       (ap (λ (x : Failure). x.code) one, ap (λ (x : Failure). x.at) one)
 

@@ -12,7 +12,9 @@ use Rattle.sts_lexer.proofs.Laws.{spells_within}
 use Rattle.sts_grammar.specs.Source.{place_of}
 use Rattle.sts_grammar.specs.Texts.{source}
 use Rattle.sts_grammar.specs.Texts as grammar
+use Rattle.sts_scope.specs.Failures.{Failure}
 use Rattle.typed_program.specs.Accepting.{IsRefusedFor, RefusesProgram}
+use Rattle.typed_program.specs.ElaborationLaws.{AgreesOnReadTexts}
 use Rattle.typed_program.proofs.NodePlaces.{ProgramAt}
 use Rattle.typed_program.proofs.SpelledPlaces.{parts}
 use Rattle.typed_program.proofs.PassPlaces.{refusal_in}
@@ -57,15 +59,17 @@ parsed_within text tables tokens code.TooDeep at t r = token_place tables text t
 parsed_within text tables tokens code.Syntax at t r = token_place tables text tokens r.2.at at r.2.token t r.2.is r.2.begins
 parsed_within text tables tokens other at t r = absurd r
 
-typed_within : (text : List ℕ) (why : Code) (at : ℕ) → RefusesProgram text why at → Within text at
-typed_within text why at r =
+typed_within : AgreesOnReadTexts → (text : List ℕ) (why : Code) (at : ℕ) → RefusesProgram text why at → Within text at
+typed_within agree text why at r =
+    let f : Failure = record { code = why; at = at } in
+    let h = (agree.fails text r.tables r.library r.tokens r.program f r.read).0 r.refused in
     let t = r.read.tokenization in
     let s = source r.tokens r.tables in
     let start : Within text 0 = (omega arith, omega arith) in
     let tree : ProgramAt (Within text) r.program = parts (Within text) s (λ i. found_place r.tables text r.tokens i (slice_get r.tokens i) t refl) start r.program 0 r.spelled.spelled in
-    (refusal_in (Within text) r.tables r.library r.program r.refused.0 start tree).place (record { code = why; at = at }) r.refused.2
+    (refusal_in (Within text) r.tables r.library r.program h.0 start tree).place f h.2
 
-pub refusal_within : (text : List ℕ) (why : Code) (at : ℕ) → IsRefusedFor text why at → Within text at
-refusal_within text why at (inl r) = lexed_within text why at r
-refusal_within text why at (inr (inl r)) = parsed_within text r.tables r.tokens why at r.read.tokenization r.refused
-refusal_within text why at (inr (inr r)) = typed_within text why at r
+pub refusal_within : AgreesOnReadTexts → (text : List ℕ) (why : Code) (at : ℕ) → IsRefusedFor text why at → Within text at
+refusal_within agree text why at (inl r) = lexed_within text why at r
+refusal_within agree text why at (inr (inl r)) = parsed_within text r.tables r.tokens why at r.read.tokenization r.refused
+refusal_within agree text why at (inr (inr r)) = typed_within agree text why at r

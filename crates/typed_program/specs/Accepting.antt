@@ -17,7 +17,7 @@ use Rattle.sts_grammar.specs.Texts.{source, no_entries}
 use Rattle.sts_grammar.specs.Texts as grammar
 use Rattle.sts_grammar.specs.Units.{IsProgram}
 use Rattle.sts_prelude.specs.Spelled.{IsLibraryTree}
-use Rattle.typed_laws.specs.Accepted.{IsAccepted, IsRefused}
+use Rattle.typed_program.specs.ElaboratedTexts.{BecomesProgram, FailsBy}
 
 -- The tree of the library of the board's interface, and the tokens of a text behind it: the tables have the library's names and texts first, and then those that the text
 -- adds, each numbered in the order in which it first appears.
@@ -31,7 +31,7 @@ pub record ReadsText (text : List ℕ) (tables : Tables) (library : Program) (to
   pub names_distinct : IsDistinct tables.names
   pub texts_distinct : IsDistinct tables.texts
 
--- A text is accepted: its tokens spell a program, within the nesting, and names and types accept that behind the library, as this typed program.
+-- A text is accepted: its tokens spell a program, within the nesting, and by names and types that becomes this typed program, after the library.
 pub record Accepts (text : List ℕ) (tables : Tables) (P : TypedProgram) : Type 0 where
   pub library : Program
   pub tokens : List Token
@@ -39,7 +39,7 @@ pub record Accepts (text : List ℕ) (tables : Tables) (P : TypedProgram) : Type
   pub shallow : NoneDeep tokens
   pub program : Program
   pub spelled : IsProgram (source tokens tables) program
-  pub accepted : IsAccepted tables library program P
+  pub accepted : BecomesProgram tables library program P
 
 -- At a token of a text too many brackets are open, and this is the place of the first such one; or its tokens spell no program, and this is the place of some token.
 pub record TokensAreRefused (text : List ℕ) (code : Code) (at : ℕ) : Type 0 where
@@ -58,7 +58,7 @@ pub record RefusesProgram (text : List ℕ) (code : Code) (at : ℕ) : Type 0 wh
   pub shallow : NoneDeep tokens
   pub program : Program
   pub spelled : IsProgram (source tokens tables) program
-  pub refused : IsRefused tables library program (record { code = code; at = at })
+  pub refused : FailsBy tables library program (record { code = code; at = at })
 
 -- A text is refused: it has no tokens; or they are refused; or the program that they spell has a failure.
 abbrev pub IsRefusedFor : List ℕ → Code → ℕ → Type 0

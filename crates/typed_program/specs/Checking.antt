@@ -7,9 +7,9 @@ use Rattle.sts_lexer.specs.declared.token.Token.{Token}
 use Rattle.sts_scope.specs.Failures.{Failure}
 use Rattle.sts_syntax.specs.Programs.{Program}
 use Rattle.sts_syntax.specs.TypedTrees.{TypedProgram}
-use Rattle.typed_laws.specs.Accepted.{IsAccepted, IsRefused}
 use Rattle.typed_laws.specs.inner.FilledTexts.{IsFilled, IsUnfilled}
 use Rattle.typed_program.specs.Accepting.{ReadsText}
+use Rattle.typed_program.specs.ElaboratedTexts.{BecomesProgram, FailsBy}
 
 -- refused with the first failure; want of memory says nothing
 abbrev pub RefusesTrees : Refused → Tables → Program → Program → Type 0
@@ -20,7 +20,7 @@ RefusesTrees r.NoMemory tables library text = Unit {0}
 pub record FilledIsTyped : Type 0 where
   pub accepted : (text : List ℕ) (tables : Tables) (library : Program) (tokens : List Token) (program : Program)
       (P : TypedProgram) → ReadsText text tables library tokens → IsFilled tables library program P
-      → IsAccepted tables library program P
+      → BecomesProgram tables library program P
   pub refused : (text : List ℕ) (tables : Tables) (library : Program) (tokens : List Token) (program : Program)
       (f : Failure) → ReadsText text tables library tokens → IsUnfilled tables library program f
-      → IsRefused tables library program f
+      → FailsBy tables library program f

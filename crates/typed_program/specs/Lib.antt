@@ -4,3 +4,6 @@ pub mod Checking
 pub mod Wholes
 pub mod Few
 pub mod Numbered
+pub mod ElaboratedTexts
+pub mod ElaborationLaws
+pub mod ElaboratedRows

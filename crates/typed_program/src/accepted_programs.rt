@@ -2,6 +2,7 @@
 ghost use Rattle.typed_program.specs.Checking.{FilledIsTyped};
 ghost use Rattle.typed_program.specs.Laws.{AcceptedIsBuildable, OneAnswer, SomeAnswer, TextHasOneAnswer};
 
+use crate::elaborated_texts::read_texts_are_elaborated;
 use sts_grammar::{one_program, the_program_is_read};
 use sts_lexer::{one_reading, spellings_stay, texts_are_read_or_refused};
 use sts_prelude::text_spells_library;
@@ -18,6 +19,7 @@ pub fn filled_programs_are_typed()
     library_leaves_first();
     prelude_is_library();
     texts_without_a_failure_are_built();
+    read_texts_are_elaborated();
 }
 
 /// The typed program of an accepted text can be built: it is well typed and within the limits, its texts stand in the tables and are bytes, and the library's
@@ -32,6 +34,7 @@ pub fn accepted_programs_are_buildable()
     typed_library_is_light();
     accepted_texts_are_well_typed();
     texts_without_a_failure_are_built();
+    read_texts_are_elaborated();
 }
 
 /// A text isn't both accepted and refused. It is accepted as one program, with one pair of tables, or refused with one code and, but for a syntax error, one place.

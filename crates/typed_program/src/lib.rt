@@ -10,6 +10,7 @@ mod build_makers;
 mod build_parts;
 mod build_program;
 mod checking;
+mod elaborated_texts;
 mod refused_places;
 
 pub use accepted_programs::{
@@ -18,4 +19,8 @@ pub use accepted_programs::{
 };
 pub use accepting::accept;
 pub use checking::check;
+pub use elaborated_texts::{
+    elaboration_agrees_on_texts, read_texts_are_elaborated, rows_of_elaborated_texts,
+    rows_of_failing_texts,
+};
 pub use refused_places::refusals_stand_in_their_texts;

@@ -12,4 +12,5 @@ returns c =
       light = c.typed_library_is_light.ensures;
       built = c.texts_without_a_failure_are_built.ensures.built;
       well_typed = c.accepted_texts_are_well_typed.ensures;
+      elaborated = c.read_texts_are_elaborated.ensures;
     })

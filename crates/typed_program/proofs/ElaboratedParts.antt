@@ -34,9 +34,9 @@ use Rattle.elaborated.proofs.Laws.{Tells, ok_tells, as_failure, then_tells, last
 use Rattle.typed_laws.specs.Programs as p
 use Rattle.typed_laws.specs.Programs.{◌before◌, outer_site, super_called}
 use Rattle.typed_laws.proofs.Laws.{type_known, give_none, return_none, some_or_none, unless_true}
-use Rattle.elaborated_texts.specs.ElaboratedTexts as x
-use Rattle.elaborated_texts.specs.ElaboratedTexts.{◌>>-◌, needed, Maker, with_those_in_it, set_first}
-use Rattle.elaborated_texts.proofs.Saying.{Says, says_ok, says_as, told_says, says_then, says_last, says_needed}
+use Rattle.typed_program.specs.ElaboratedTexts as x
+use Rattle.typed_program.specs.ElaboratedTexts.{◌>>-◌, needed, Maker, with_those_in_it, set_first}
+use Rattle.typed_program.proofs.Saying.{Says, says_ok, says_as, told_says, says_then, says_last, says_needed}
 
 abbrev made_only : {A : Type 0} → A → Made A
 made_only a = record { it = a; locals = []; routines = [] }

@@ -5,7 +5,7 @@ use Rattle.sts_base.specs.declared.refused.Code.{Code}
 use Rattle.sts_scope.specs.Failures.{Failure, ◌then◌}
 use Rattle.type_derive.specs.Making.{Made}
 use Rattle.elaborated.proofs.Laws.{failed, Tells}
-use Rattle.elaborated_texts.specs.ElaboratedTexts.{◌>>-◌, needed, checked}
+use Rattle.typed_program.specs.ElaboratedTexts.{◌>>-◌, needed, checked}
 
 abbrev pub failure_of : {A : Type 0} → Result A Failure → Option Failure
 failure_of (Err why) = Some why

@@ -8,7 +8,7 @@ use Rattle.sts_syntax.specs.Programs.{Field, Constructor, Class, Program}
 use Rattle.sts_syntax.specs.TypedTrees.{TypedProgram}
 use Rattle.sts_scope.specs.Failures.{Failure}
 use Rattle.typed_laws.specs.Rows.{rounds, spelled}
-use Rattle.elaborated_texts.specs.ElaboratedTexts.{elab_text}
+use Rattle.typed_program.specs.ElaboratedTexts.{elab_text}
 
 -- without a library, with the types that four rounds give
 abbrev pub elaborated_text : Tables → Program → Result TypedProgram Failure

@@ -1,4 +1,4 @@
-//! Worked rows: small texts, without a library. Codes, places and trees were set by hand from the rules.
+//! The laws of elaborated texts, and worked rows. Codes, places and trees were set by hand from the rules.
 ghost use Rattle.std.specs.Prelude.{◌≡◌, pos, Some, None, [], ◌∷◌, Ok, Err};
 ghost use Rattle.sts_base.specs.declared.refused.Code.TheVariants.{UnknownName, NeedsType, ClassCycle, Mismatch};
 ghost use Rattle.sts_syntax.specs.declared.board_calls.BoardCall.TheVariants.{WriteNumber};
@@ -6,7 +6,26 @@ ghost use Rattle.sts_syntax.specs.declared.typed.Callee.TheVariants as c;
 ghost use Rattle.sts_syntax.specs.Types as t;
 ghost use Rattle.sts_syntax.specs.TypedTrees as e;
 ghost use Rattle.typed_laws.specs.Rows.{sum_names, written_sum, unknown_names, unknown, v_names, null_alone, a_names, own_base, overriding_names, overriding, call_names, calling_itself};
-ghost use Rattle.elaborated_texts.specs.ElaboratedRows.{elaborated_text, late_names, late_field};
+ghost use Rattle.typed_program.specs.ElaboratedRows.{elaborated_text, late_names, late_field};
+ghost use Rattle.typed_program.specs.ElaborationLaws.{AgreesOnReadTexts, ElaborationAgreesOnTexts};
+
+use typed_laws::{library_leaves_first, prelude_is_library, texts_without_a_failure_are_built};
+
+/// After a library, with the types of declarations that aren't written, a text fails by its first failure of headings, overriding methods, nodes and limits; where there is none, it becomes the typed program that is made of it.
+pub fn elaboration_agrees_on_texts()
+    ensures { ElaborationAgreesOnTexts }
+{
+    texts_without_a_failure_are_built();
+}
+
+/// After the library of the prelude a text becomes, by elaboration, the typed program that is made of it, and it fails by its first failure.
+pub fn read_texts_are_elaborated()
+    ensures { AgreesOnReadTexts }
+{
+    library_leaves_first();
+    prelude_is_library();
+    elaboration_agrees_on_texts();
+}
 
 /// First failures.
 pub fn rows_of_failing_texts()

@@ -39,11 +39,11 @@ use Rattle.typed_laws.specs.Programs as p
 use Rattle.typed_laws.specs.Programs.{outer_site}
 use Rattle.typed_laws.specs.inner.FilledTexts.{filled_program}
 use Rattle.typed_laws.proofs.Laws.{item_sourced, bind_some, Suffix, suffix_step, suffix_one, suffix_at, suffix_head, no_classes, sources_joined, sources_length, solved, first, last}
-use Rattle.elaborated_texts.specs.ElaboratedTexts as x
-use Rattle.elaborated_texts.specs.ElaboratedTexts.{Members, no_members, set_first, whole_of, elab_text}
-use Rattle.elaborated_texts.specs.ElaborationLaws.{AgreesOnText, ElaborationAgreesOnTexts, ElaborationAgreesOnClaims}
-use Rattle.elaborated_texts.proofs.ElaboratedParts.{AreSolved, first_tells, global_tells, function_says, constructor_says, kind_known, plain_says, method_says}
-use Rattle.elaborated_texts.proofs.Saying.{failure_of, Says, says_ok, says_as, told_says, says_then, says_last, says_needed, says_checked, no_more}
+use Rattle.typed_program.specs.ElaboratedTexts as x
+use Rattle.typed_program.specs.ElaboratedTexts.{Members, no_members, set_first, whole_of, elab_text}
+use Rattle.typed_program.specs.ElaborationLaws.{AgreesOnText, ElaborationAgreesOnTexts}
+use Rattle.typed_program.proofs.ElaboratedParts.{AreSolved, first_tells, global_tells, function_says, constructor_says, kind_known, plain_says, method_says}
+use Rattle.typed_program.proofs.Saying.{failure_of, Says, says_ok, says_as, told_says, says_then, says_last, says_needed, says_checked, no_more}
 
 module _ (w : Whole) where
   globals_tell : (d : ℕ) (each : Declarations) (m n : ℕ)
@@ -265,20 +265,5 @@ agrees built tables library text kinds derived ok =
         λ (none, typed_is).
             let (Q, is) = gave (elab_text tables library text kinds) (said.fails ∙ none) in
             is ∙ ap (λ (z : TypedProgram). let q : Result TypedProgram Failure = Ok z in q) (same_Some Q P (sym (said.made Q is) ∙ typed_is)),
-      );
-    }
-
-pub claims_agree : TextsAreBuilt → ElaborationAgreesOnClaims
-claims_agree built tables library text library_so =
-    let said : (kinds : TypeTable) → AreDerived tables library text kinds → AgreesOnText tables library text kinds =
-    λ kinds derived. agrees built tables library text kinds derived (library_so kinds derived) in
-    record {
-      accepted = λ P. (
-        λ (kinds, derived, is). let (none, made) = ((said kinds derived).gives P).0 is in (kinds, derived, none, made),
-        λ (kinds, derived, none, made). (kinds, derived, ((said kinds derived).gives P).1 (none, made)),
-      );
-      refused = λ f. (
-        λ (kinds, derived, is). (kinds, derived, ((said kinds derived).fails f).0 is),
-        λ (kinds, derived, is). (kinds, derived, ((said kinds derived).fails f).1 is),
       );
     }

@@ -1,3 +1,0 @@
-mod Saying
-mod ElaboratedParts
-mod ElaboratedTexts

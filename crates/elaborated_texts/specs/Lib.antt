@@ -1,3 +1,0 @@
-pub mod ElaboratedTexts
-pub mod ElaborationLaws
-pub mod ElaboratedRows
