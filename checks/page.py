@@ -9,7 +9,7 @@ import sys
 import tempfile
 
 TOP = os.path.dirname(os.path.dirname(os.path.abspath(__file__)))
-SOURCES = [f"{TOP}/crates/{it}/src/page.rt" for it in ("view", "play")]
+SOURCES = [f"{TOP}/crates/{it}/src/page.rt" for it in ("view", "play_answers")]
 
 
 def sum_of(text):

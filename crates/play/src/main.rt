@@ -2,13 +2,11 @@
 #![tactic(auto)]
 
 mod answer;
-mod files;
-mod page;
-mod request;
 
-use answer::{Named, Play};
-use http_server::{Config, Connection, serve};
-use request::Site;
+use answer::PostedRuns;
+use http_server::{Config, Connection};
+use play_answers::{Named, Play, answer_all};
+use play_requests::Site;
 use std::alloc::Global;
 use std::env;
 use std::hash::RandomState;
@@ -64,13 +62,14 @@ fn main(rt: HostRuntime) -> ExitCode {
         ..Config::default()
     };
     let mut connection = Connection::new(alloc, keys, config);
-    let mut service = Play {
+    let mut play = Play {
         rt,
+        runs: PostedRuns,
         site,
         program,
         script,
     };
-    match serve(&mut connection, &mut service, &mut stdin, &mut stdout) {
+    match answer_all(&mut connection, &mut play, &mut stdin, &mut stdout) {
         Ok(()) => ExitCode::from(0),
         Err(_) => ExitCode::from(FAILED),
     }

@@ -2,7 +2,7 @@
 
 /// What the page may do: its own style and its own script alone, by their sums, and requests to where it came from.
 pub const POLICY: &str =
-    "default-src 'none'; script-src 'sha256-b3TwnGROFIIRMJgYv9hLtNYonWem5wxxiFQ2kldZ7ok='; style-src 'sha256-Yl5dzUnvcVNtXs76Pta0n21TRLEQzGbIQe6ZiwOpJuc='; connect-src 'self'; base-uri 'none'; form-action 'none'; frame-ancestors 'none'";
+    "default-src 'none'; script-src 'sha256-GVIrhgYYPE/yjsciY7MQf2bA95Kd+IQLQCPMSBi9BHQ='; style-src 'sha256-Yl5dzUnvcVNtXs76Pta0n21TRLEQzGbIQe6ZiwOpJuc='; connect-src 'self'; base-uri 'none'; form-action 'none'; frame-ancestors 'none'";
 
 /// The page.
 pub const PAGE: &str = r##"<!doctype html>
@@ -204,6 +204,9 @@ at("text").addEventListener("keydown", (it) => {
 const script = (end) => JSON.stringify({ end, events });
 const budgetOf = (end) => Math.min(MOST_BUDGET, 1000000 + 100 * end);
 const horizon = () => Math.min(MOST, Math.ceil((Math.max(time + AHEAD / 2, events.length ? events[events.length - 1].at + 1000 : 0) + 1) / AHEAD) * AHEAD);
+// (what was asked for and isn't answered yet, from its first moment on, isn't shown: so nothing that was shown changes)
+let held = Infinity, waits = Infinity;
+const hold = () => { held = Math.min(held, time); waits = Math.min(waits, time); };
 const run = async () => {
   if (busy) { again = true; return; }
   busy = true;
@@ -211,12 +214,15 @@ const run = async () => {
     again = false;
     const value = at("text").value, text = bytesOf(value), end = horizon(), begun = performance.now(), until = since;
     since = Infinity;
+    waits = Infinity;
     try {
       const came = await fetch("/run/" + text.length + "/" + budgetOf(end), { method: "POST", headers: { "Content-Type": "application/octet-stream", "X-Play": secret }, body: new Blob([text, script(end)]) });
       if (!came.ok) throw new Error("answer " + came.status);
+      const bytes = new Uint8Array(await came.arrayBuffer());
       sentText = value;
-      take(new Uint8Array(await came.arrayBuffer()), end, performance.now() - begun, until);
-    } catch (error) { at("state").textContent = "Nothing answers: is play still running? (" + error.message + ")"; stop(); }
+      held = waits;
+      take(bytes, end, performance.now() - begun, until);
+    } catch (error) { held = waits; at("state").textContent = "Nothing answers: is play still running? (" + error.message + ")"; stop(); }
   } while (again);
   busy = false;
 };
@@ -289,7 +295,7 @@ for (let i = 0; i < 25; i += 1) { const it = make("span", undefined, "light"); l
 const inWords = (rows) => rows.split("/").map((row, i) => [...row].map((it, k) => (it === "#" ? k + 1 : 0)).filter(Boolean).join(" ")).map((on, i) => on && "row " + (i + 1) + ": " + on).filter(Boolean).join(", ") || "dark";
 let shownKey = "", said = "";
 const draw = () => {
-  const upto = answer.lines.filter((it) => it.at <= time);
+  const shown = Math.min(time, held), upto = answer.lines.filter((it) => it.at <= shown);
   const picture = upto.findLast((it) => it.kind === "display"), rows = picture ? picture.rest : "...../...../...../...../.....";
   const flat = rows.replaceAll("/", "");
   lights.forEach((it, i) => it.classList.toggle("on", flat[i] === "#"));
@@ -304,13 +310,13 @@ const draw = () => {
   upto.filter((it) => it.kind === "pin").forEach((it) => { const [pin, level] = it.rest.split(" "); levels.set(pin, level); });
   const key = JSON.stringify([...levels]);
   if (key !== shownKey) { shownKey = key; at("pins").replaceChildren(...[...levels].sort((a, b) => a[0] - b[0]).map(([pin, level]) => make("span", "P" + pin + " " + (level === "1" ? "high" : "low"), level === "1" ? "high" : ""))); if (!levels.size) at("pins").append(make("span", "no pin was set")); }
-  at("now").textContent = Math.floor(time) + " of " + answer.end + " ms";
+  at("now").textContent = Math.floor(shown) + " of " + answer.end + " ms";
   at("time").max = String(answer.end);
-  at("time").value = String(Math.floor(time));
-  at("time").setAttribute("aria-valuetext", Math.floor(time) + " milliseconds");
+  at("time").value = String(Math.floor(shown));
+  at("time").setAttribute("aria-valuetext", Math.floor(shown) + " milliseconds");
   const close = answer.closing;
   let words = "";
-  if (close && close.at <= time) {
+  if (close && close.at <= shown) {
     if (answer.waits) words = "The board waits: nothing is left to do until something comes.";
     else if (close.kind !== "end") words = "It stopped at " + close.at + " ms: " + (close.says || close.line);
   }
@@ -354,7 +360,7 @@ const tick = (now) => {
   const close = answer.closing, ends = close && close.kind !== "end";
   time += (now - last) * Number(at("speed").value);
   last = now;
-  if (ends && time >= close.at) { time = close.at; stop(); draw(); return; }
+  if (ends && Math.min(time, held) >= close.at) { time = close.at; stop(); draw(); return; }
   if (time > answer.end - AHEAD / 4 && !busy && answer.end < horizon()) run().then(drawMarks);
   if (time > answer.end) time = answer.end;
   draw();
@@ -378,6 +384,7 @@ at("time").addEventListener("input", () => { stop(); time = Number(at("time").va
 // ---- what comes from outside: one moment after all that is shown, so that nothing shown changes
 const add = (entry, later = 0) => {
   if (mark) return;
+  hold();
   const moment = Math.floor(time) + 1 + later;
   let k = events.length;
   while (k > 0 && events[k - 1].at > moment) k -= 1;

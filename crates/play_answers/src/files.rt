@@ -53,19 +53,39 @@ pub fn has_sum(alloc: Global, now: &Stored, sum: &[u8]) -> Result<bool, AllocErr
     }
 }
 
-/// Writes a new file, and waits until the disk has it.
-fn write_new(rt: &HostRuntime, path: &str, bytes: &[u8]) -> io::Result<()> {
-    let mut file = fs::File::create(rt, path)?;
-    file.write_all(bytes)?;
-    file.sync_all()
+/// How many names are tried for a new file.
+const MOST_NAMES: u32 = 100;
+
+/// Writes these bytes to a new file beside the one of this path, waits until the disk has them, and gives its name. It writes to no file that was there, and follows no link.
+fn write_beside(rt: &HostRuntime, path: &str, bytes: &[u8]) -> io::Result<String> {
+    for number in 0..MOST_NAMES {
+        let beside = format!(in rt.alloc(); "{path}.{number}.new")?;
+        match fs::File::create_new(rt, &beside) {
+            Ok(mut file) => {
+                let written = file.write_all(bytes).and_then(|()| file.sync_all());
+                return match written {
+                    Ok(()) => Ok(beside),
+                    Err(error) => {
+                        let _ = fs::remove_file(rt, &beside);
+                        Err(error)
+                    }
+                };
+            }
+            Err(error) if error.kind() == ErrorKind::AlreadyExists => {}
+            Err(error) => return Err(error),
+        }
+    }
+    Err(ErrorKind::AlreadyExists.into())
 }
 
 /// Puts these bytes in the place of the file of this path: beside it first, and then under its name, so that there is one of the two whole at each moment.
-pub fn keep(rt: &HostRuntime, path: &str, bytes: &[u8]) -> Result<bool, AllocError> {
-    let beside = format!(in rt.alloc(); "{path}.new")?;
-    if write_new(rt, &beside, bytes).is_ok() && fs::rename(rt, &beside, path).is_ok() {
-        return Ok(true);
+pub fn keep(rt: &HostRuntime, path: &str, bytes: &[u8]) -> bool {
+    let Ok(beside) = write_beside(rt, path, bytes) else {
+        return false;
+    };
+    if fs::rename(rt, &beside, path).is_ok() {
+        return true;
     }
     let _ = fs::remove_file(rt, &beside);
-    Ok(false)
+    false
 }
