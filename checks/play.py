@@ -241,13 +241,27 @@ def listens(folder):
 
 
 def in_the_way(folder):
-    """A file that a save would write first isn't replaced: bin/play says so, and nothing is opened."""
+    """A save is written first to a file of its own: links and files that others have put beside it stay as they are, also those of names that it would take, and where there are too many it is refused."""
+    victim, saved = f"{folder}/victim", request("POST", "/save/script", b"{}\n", more="X-Sum: none\r\n")
+    file_of(folder, "victim", b"mine")
     file_of(folder, "game.json.new", b"mine")
-    words = [f"{TOP}/bin/play", f"{folder}/game.ts", "--no-browser"]
-    ran = subprocess.run(words, capture_output=True, text=True, timeout=60, check=False)
-    look((ran.returncode, ran.stdout, "would replace it" in ran.stderr) == (1, "", True), "a file beside the script isn't told")
-    look(read(f"{folder}/game.json.new") == b"mine", "a file beside the script is replaced")
-    os.remove(f"{folder}/game.json.new")
+    file_of(folder, "game.json.1.new", b"mine")
+    os.symlink(victim, f"{folder}/game.json.0.new")
+    os.symlink(f"{folder}/nowhere", f"{folder}/game.json.2.new")
+    before = sorted(os.listdir(folder))
+    came = one(folder, saved)
+    look(came[0] == 204 and read(f"{folder}/game.json") == b"{}\n" and not os.path.islink(f"{folder}/game.json"), f"with links in its way a save is answered {came[0]}")
+    os.remove(f"{folder}/game.json")
+    look(sorted(os.listdir(folder)) == before and os.readlink(f"{folder}/game.json.0.new") == victim, "a save leaves or takes away another file")
+    for number in range(3, 100):
+        os.symlink(victim, f"{folder}/game.json.{number}.new")
+    came = one(folder, saved)
+    look(came[0] == 500 and not os.path.exists(f"{folder}/game.json"), f"with all names taken a save is answered {came[0]}")
+    look([read(f"{folder}/{name}") for name in ("victim", "game.json.new", "game.json.1.new")] == [b"mine"] * 3, "a save writes to a file of somebody else")
+    look(sum(os.path.islink(f"{folder}/{name}") for name in os.listdir(folder)) == 99, "a save takes away a link of somebody else")
+    for name in os.listdir(folder):
+        if name != "game.ts":
+            os.remove(f"{folder}/{name}")
 
 
 def names_told(folder):
