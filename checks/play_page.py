@@ -126,6 +126,13 @@ def used(served):
         look(all(one.startswith(served.url.split("#")[0]) for one in it.asked), f"the page asks for {it.asked}")
 
 
+def picture_at(lines, moment):
+    """The lights and the serial port's text that lines show at a moment."""
+    before = [(kind, rest) for at, kind, rest in lines if at <= moment]
+    lights = [rest for kind, rest in before if kind == "display"]
+    return [lights[-1].replace("/", "") if lights else "." * 25, bytes.fromhex("".join(rest for kind, rest in before if kind == "serial")).decode()]
+
+
 def pressed(served):
     """What was shown stays as it was, whatever is pressed; and how long a click takes."""
     chance = random.Random(72)
@@ -136,9 +143,14 @@ def pressed(served):
         it.value("document.activeElement.blur()")
         it.click("#anew")
         it.quiet()
+        seen = []
         for _ in range(200):
             chance.choice([lambda: it.press("a", 0), lambda: it.press("b", 0.01), lambda: it.click("#a"), lambda: it.click("#ab")])()
+            seen.append(it.value("[parseInt(document.getElementById('now').textContent), [...document.querySelectorAll('.light')].map((one) => one.classList.contains('on') ? '#' : '.').join(''), document.getElementById('serial').textContent]"))
         it.quiet()
+        last = it.value("answer.lines.map((one) => [one.at, one.kind, one.rest])")
+        changed = [(moment, *was) for moment, *was in seen if was != picture_at(last, moment)]
+        look(not changed and len({lights for _, lights, _ in seen}) > 3, f"what was shown behind 200 presses is another at the end, {len(changed)} times: {changed[:3]}")
         look(it.value("broken") == 0, f"what was shown has changed, {it.value('broken')} times")
         look(it.value("events.length") > 300, f"200 presses are {it.value('events.length')} entries")
         times = []
