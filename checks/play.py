@@ -3,6 +3,7 @@ import hashlib
 import os
 import random
 import re
+import shutil
 import socket
 import subprocess
 import sys
@@ -240,6 +241,24 @@ def listens(folder):
     look(not left, f"processes are left: {left}")
 
 
+def ends_early(folder):
+    """Ctrl-C while the program is made ends bin/play without more words, and what makes it too."""
+    shutil.copytree(f"{TOP}/bin", f"{folder}/bin")
+    os.remove(f"{folder}/bin/program")
+    file_of(folder, "bin/program", b"#!/bin/sh\nexec sleep 600.25\n")
+    os.chmod(f"{folder}/bin/program", 0o755)
+    runs_it = subprocess.Popen([f"{folder}/bin/play", f"{folder}/game.ts", "--no-browser"], stdout=subprocess.PIPE, stderr=subprocess.PIPE, text=True)
+    for _ in range(200):
+        if subprocess.run(["pgrep", "-P", str(runs_it.pid), "-f", "sleep 600.25"], stdout=subprocess.DEVNULL, check=False).returncode == 0:
+            break
+        time.sleep(0.05)
+    runs_it.send_signal(2)
+    said = runs_it.communicate(timeout=20)
+    look((runs_it.returncode, *said) == (130, "", ""), f"Ctrl-C while play is made: status {runs_it.returncode}, {said[1][-200:]}")
+    left = subprocess.run(["pgrep", "-f", "sleep 600.25"], stdout=subprocess.PIPE, text=True, check=False).stdout
+    look(not left, f"what makes play is left: {left}")
+
+
 def in_the_way(folder):
     """A save is written first to a file of its own: links and files that others have put beside it stay as they are, also those of names that it would take, and where there are too many it is refused."""
     victim, saved = f"{folder}/victim", request("POST", "/save/script", b"{}\n", more="X-Sum: none\r\n")
@@ -274,7 +293,7 @@ def names_told(folder):
 
 with tempfile.TemporaryDirectory(prefix="play-") as here:
     file_of(here, "game.ts", read(f"{TOP}/examples/game.ts"))
-    for part in (statuses, files, runs, cuts, strangers, listens, in_the_way, names_told):
+    for part in (statuses, files, runs, cuts, strangers, listens, in_the_way, names_told, ends_early):
         part(here)
 print(f"play: {tries} looked at, {wrong} wrong")
 sys.exit(1 if wrong else 0)
